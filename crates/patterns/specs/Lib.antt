@@ -1,0 +1,4 @@
+pub mod Patterns
+pub mod Limits
+pub mod Numbers
+pub mod Kept

@@ -1,0 +1,5 @@
+pub mod Rows
+pub mod Known
+pub mod Laws
+pub mod Search
+pub mod Finding

@@ -1,0 +1,4 @@
+mod Placing
+pub mod Lists
+pub mod Sorting
+pub mod Order
