@@ -2,3 +2,4 @@ pub mod Lists
 pub mod Order
 pub mod Places
 pub mod Ring
+pub mod Ordered

@@ -1,0 +1,4 @@
+pub mod Engine
+pub mod Promise
+pub mod Machine
+pub mod Entry

@@ -1,0 +1,5 @@
+// The listener: one step of a machine on a lent memory.
+mod acts;
+mod head;
+
+pub use acts::Told;
