@@ -1,2 +1,7 @@
 pub mod Order
 pub mod Rows
+mod Reach
+mod Same
+mod Held
+mod Known
+pub mod Newly

@@ -1,5 +1,6 @@
 pub mod Rows
 pub mod Known
 pub mod Laws
+pub mod Newly
 pub mod Search
 pub mod Finding

@@ -1,5 +1,15 @@
 // Rows of events that fit a pattern: what they are, and how they are found.
+mod laws;
 mod search;
 
+pub use laws::ends_held;
+pub use laws::grows;
+pub use laws::held_enough;
+pub use laws::held_later;
+pub use laws::known_stays;
+pub use laws::never_stale;
+pub use laws::newly_held;
+pub use laws::sorted_right;
+pub use laws::told_once;
 pub use search::Cursor;
 pub use search::Found;
