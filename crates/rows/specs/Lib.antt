@@ -3,3 +3,4 @@ pub mod Known
 pub mod Laws
 pub mod Search
 pub mod Finding
+pub mod SearchLaws
