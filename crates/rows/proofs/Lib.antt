@@ -5,3 +5,10 @@ mod Same
 mod Held
 mod Known
 pub mod Newly
+mod Positions
+mod Rising
+mod Picks
+mod Steps
+mod OneLast
+mod ByLast
+pub mod AllFound
