@@ -1,5 +1,6 @@
 pub mod Lists
 pub mod Order
+pub mod Ordered
 pub mod Places
 pub mod Ring
-pub mod Ordered
+pub mod Held
