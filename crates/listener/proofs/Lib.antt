@@ -1,2 +1,5 @@
 mod Runs
 mod Memory
+mod Steps
+mod Tells
+mod Fronts

@@ -10,15 +10,14 @@ use Rattle.std.specs.declared.option.Option.{Option}
 use Rattle.std.specs.declared.option.Option.the-variants.{Some, None}
 use Rattle.timeline.specs.declared.events.Event.{Event}
 use Rattle.timeline.specs.Lists.{pick}
-use Rattle.timeline.specs.Order.{nothing}
-use Rattle.timeline.specs.Ring.{capacity, events, laid}
-use Rattle.timeline.specs.Ordered.{put-last}
+use Rattle.timeline.specs.Ring.{capacity, events, with-put, with-forgotten}
 use Rattle.patterns.specs.Patterns.{Pattern, named}
 use Rattle.patterns.specs.Limits.{a-pattern, an-event}
 use Rattle.patterns.specs.Kept.{kept-pattern, kept-count, pattern-cells}
 use Rattle.rows.specs.declared.search.Cursor.{Cursor}
 use Rattle.rows.specs.declared.search.Found.{Found}
 use Rattle.rows.specs.Finding.{six, next-found}
+use Rattle.rows.specs.SearchLaws.{begin-at}
 use Rattle.listener.specs.declared.head.Phase.{Phase}
 use Rattle.listener.specs.declared.head.Phase.the-variants.{New, Waiting, Telling, Ending, Over}
 use Rattle.listener.specs.declared.head.Head.{Head}
@@ -92,11 +91,7 @@ with-some (Some x) b f = f x
 
 -- TELLING
 
--- the search from one last event on
-abbrev pub first-cursor : ℕ → Cursor
-first-cursor known = record { depth = 0; at = known ∷ 0 ∷ 0 ∷ 0 ∷ 0 ∷ 0 ∷ [] }
-
--- and behind the row that was told last
+-- the search behind the row that was told last
 abbrev pub cursor-of : List ℕ → Head → Cursor
 cursor-of cells h = record { depth = kept-count cells - 1; at = h .at }
 
@@ -130,7 +125,7 @@ settled-head h =
 
 abbrev pub settled : Phase → Head → List ℕ → List ℕ → Stepped
 settled ph h cells ring =
-    stepped (memory-of (phase-after ph) (settled-head h) cells (laid ring (h .start) (replicate (h .stale) nothing))) (act-after ph)
+    stepped (memory-of (phase-after ph) (settled-head h) cells (with-forgotten ring (h .start) (h .stale))) (act-after ph)
 
 abbrev pub with-places : Head → List ℕ → Head
 with-places h at =
@@ -200,7 +195,7 @@ hear p h es e =
 
 -- the ring and the state with an event that has to be held put in where it belongs
 abbrev pub ring-with : Head → Event → Bool → List ℕ → List ℕ
-ring-with h e true ring = laid ring (h .start) (put-last e (events ring (h .start) (h .len)))
+ring-with h e true ring = with-put ring (h .start) (h .len) e
 ring-with h e false ring = ring
 
 abbrev pub len-with : Head → Bool → ℕ
@@ -234,23 +229,24 @@ counted-head h =
       at = h .at;
     }
 
-abbrev pub turned : List ℕ → Head → Event → Turn → Stepped
-turned m h e Late = stepped (memory-of Waiting (counted-head h) (cells-of m) (ring-of m)) late
-turned m h e Full = stepped (memory-of Over h (cells-of m) (ring-of m)) (refused 8)
-turned m h e (Counts h₁ b) =
-    tell-from Telling (telling-head (kept-pattern (cells-of m)) h₁ b (ring-with h₁ e b (ring-of m))) (cells-of m) (ring-with h₁ e b (ring-of m)) (first-cursor (h₁ .known))
+abbrev pub turned : Head → List ℕ → List ℕ → Event → Turn → Stepped
+turned h cells ring e Late = stepped (memory-of Waiting (counted-head h) cells ring) late
+turned h cells ring e Full = stepped (memory-of Over h cells ring) (refused 8)
+turned h cells ring e (Counts h₁ b) =
+    tell-from Telling (telling-head (kept-pattern cells) h₁ b (ring-with h₁ e b ring)) cells (ring-with h₁ e b ring) (begin-at (h₁ .known))
+
+unfoldable pub heard : Head → List ℕ → List ℕ → Event → Stepped
+heard h cells ring e = turned h cells ring e (hear (kept-pattern cells) h (events ring (h .start) (h .len)) e)
 
 abbrev pub event-of : ℕ → ℕ → ℕ → ℕ → ℕ → Event
 event-of n t k w v = record { heard = n; time = t; kind = k; who = w; value = v }
-
-unfoldable pub heard : List ℕ → Head → Event → Stepped
-heard m h e = turned m h e (hear (kept-pattern (cells-of m)) h (events (ring-of m) (h .start) (h .len)) e)
 
 -- an event
 unfoldable pub came : List ℕ → ℕ → ℕ → ℕ → ℕ → Stepped
 came m t k w v =
     with-some (head-at Waiting m) (stepped m (refused 2))
-    (λ h. pick (an-event (event-of (h .count) t k w v)) (heard m h (event-of (h .count) t k w v)) (stepped m (refused 2)))
+    (λ h.
+    pick (an-event (event-of (h .count) t k w v)) (heard h (cells-of m) (ring-of m) (event-of (h .count) t k w v)) (stepped m (refused 2)))
 
 -- all held events may be last ones now, and all are forgotten afterwards
 abbrev pub ending-head : Head → Head
@@ -270,7 +266,7 @@ ending-head h =
 unfoldable pub ended : List ℕ → Stepped
 ended m =
     with-some (head-at Waiting m) (stepped m (refused 2))
-    (λ h. tell-from Ending (ending-head h) (cells-of m) (ring-of m) (first-cursor (h .known)))
+    (λ h. tell-from Ending (ending-head h) (cells-of m) (ring-of m) (begin-at (h .known)))
 
 abbrev pub resumed : Phase → List ℕ → Head → Stepped
 resumed ph m h = tell-from ph h (cells-of m) (ring-of m) (cursor-of (cells-of m) h)
