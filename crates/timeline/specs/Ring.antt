@@ -58,7 +58,7 @@ with-forgotten ring start n = laid ring start (replicate n nothing)
 
 -- what is held, as the numbers of two parts of the ring: from the first slot to the end of the ring at most, and the rest from its beginning on
 abbrev pub front-part : List ℕ → ℕ → ℕ → List ℕ
-front-part ring start len = take (min (start + len) capacity * 5 - start * 5) (drop (start * 5) ring)
+front-part ring start len = take ((min (start + len) capacity - start) * 5) (drop (start * 5) ring)
 
 abbrev pub back-part : List ℕ → ℕ → ℕ → List ℕ
 back-part ring start len = take ((start + len - capacity) * 5) ring
