@@ -3,3 +3,4 @@ mod Memory
 mod Steps
 mod Tells
 mod Fronts
+mod Holding
