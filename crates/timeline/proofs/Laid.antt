@@ -127,12 +127,9 @@ pub laid-forget : (s n : ℕ) (fs : List Event) → n ≤ length fs → length f
     → laid (laid (replicate ring-long 0) s fs) s (replicate n nothing) ≡ laid (replicate ring-long 0) ((s + n) % capacity) (drop n fs)
 laid-forget s n fs l h = forget-laid (replicate ring-long 0) (length-replicate {A = ℕ} ring-long 0) (slot-zeros ring-long) s n fs l h
 
--- a number of 64 bits, and an event of such numbers
-abbrev pub word : ℕ → Bool
-word m = ltb m 18446744073709551616
-
-abbrev pub of-words : Event → Bool
-of-words e = word (e .heard) && (word (e .time) && (word (e .kind) && (word (e .who) && word (e .value))))
+-- every number of an event passes a test
+abbrev pub each-number : (ℕ → Bool) → Event → Bool
+each-number f e = f (e .heard) && (f (e .time) && (f (e .kind) && (f (e .who) && f (e .value))))
 
 every-set : (f : ℕ → Bool) (xs : List ℕ) (i x : ℕ) → every f xs ≡ true → f x ≡ true → every f (set xs i x) ≡ true
 unfolding every
@@ -142,9 +139,9 @@ every-set f (y ∷ ys) (suc i) x h k =
     let p = and-parts (f y) (every f ys) h in
     and-from (f y) (every f (set ys i x)) (p .0) (every-set f ys i x (p .1) k)
 
-with-small : (f : ℕ → Bool) (ring : List ℕ) (n : ℕ) (e : Event) → every f ring ≡ true
-    → (f (e .heard) && (f (e .time) && (f (e .kind) && (f (e .who) && f (e .value))))) ≡ true → every f (with-event ring n e) ≡ true
-with-small f ring n e h k =
+with-every : (f : ℕ → Bool) (ring : List ℕ) (n : ℕ) (e : Event) → every f ring ≡ true
+    → each-number f e ≡ true → every f (with-event ring n e) ≡ true
+with-every f ring n e h k =
     let p0 = and-parts (f (e .heard)) (f (e .time) && (f (e .kind) && (f (e .who) && f (e .value)))) k in
     let p1 = and-parts (f (e .time)) (f (e .kind) && (f (e .who) && f (e .value))) (p0 .1) in
     let p2 = and-parts (f (e .kind)) (f (e .who) && f (e .value)) (p1 .1) in
@@ -155,9 +152,16 @@ with-small f ring n e h k =
     let r3 = every-set f _ (n + 3) (e .who) r2 (p3 .0) in
     every-set f _ (n + 4) (e .value) r3 (p3 .1)
 
-pub laid-small : (ring : List ℕ) (s : ℕ) (es : List Event) → every word ring ≡ true → every of-words es ≡ true → every word (laid ring s es) ≡ true
+pub laid-every : (f : ℕ → Bool) (ring : List ℕ) (s : ℕ) (es : List Event) → every f ring ≡ true → every (each-number f) es ≡ true → every f (laid ring s es) ≡ true
 unfolding laid every
-laid-small ring s [] h k = h
-laid-small ring s (e ∷ es) h k =
-    let p = and-parts (of-words e) (every of-words es) k in
-    laid-small (with-event ring (s % capacity * 5) e) (s + 1) es (with-small word ring (s % capacity * 5) e h (p .0)) (p .1)
+laid-every f ring s [] h k = h
+laid-every f ring s (e ∷ es) h k =
+    let p = and-parts (each-number f e) (every (each-number f) es) k in
+    laid-every f (with-event ring (s % capacity * 5) e) (s + 1) es (with-every f ring (s % capacity * 5) e h (p .0)) (p .1)
+
+-- numbers of 64 bits stay so
+pub laid-small : (ring : List ℕ) (s : ℕ) (es : List Event)
+    → every (λ m. ltb m 18446744073709551616) ring ≡ true
+    → every (each-number (λ m. ltb m 18446744073709551616)) es ≡ true
+    → every (λ m. ltb m 18446744073709551616) (laid ring s es) ≡ true
+laid-small ring s es h k = laid-every (λ m. ltb m 18446744073709551616) ring s es h k

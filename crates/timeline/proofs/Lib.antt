@@ -2,9 +2,10 @@ mod Placing
 mod Cells
 mod Runs
 mod Puts
-mod Ordering
+pub mod Ordering
 mod Steps
 mod Parting
+mod Changing
 pub mod Laid
 pub mod Lists
 pub mod Sorting

@@ -4,3 +4,4 @@ pub mod Ordered
 pub mod Places
 pub mod Ring
 pub mod Held
+pub mod Changes

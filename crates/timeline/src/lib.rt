@@ -1,11 +1,17 @@
 // Events in the order of time.
 mod events;
+mod laws;
 mod places;
 mod ring;
 mod slots;
 mod spans;
+#[cfg(test)]
+mod tests;
 
 pub use events::Event;
+pub use laws::changes_hold;
+pub use laws::puts_sort;
+pub use laws::slots_say_all;
 pub use places::Reply;
 pub use places::place;
 pub use places::smaller_of;
