@@ -5,3 +5,6 @@ mod Same
 mod Held
 mod Known
 pub mod Newly
+mod Among
+mod Along
+mod Fitting

@@ -4,3 +4,4 @@ pub mod Laws
 pub mod Newly
 pub mod Search
 pub mod Finding
+pub mod Fitting
