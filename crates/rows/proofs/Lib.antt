@@ -12,3 +12,6 @@ mod Steps
 mod OneLast
 mod ByLast
 pub mod AllFound
+mod Among
+mod Along
+mod Fitting

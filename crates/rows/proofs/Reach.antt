@@ -49,6 +49,9 @@ pub near-of : (all : List Event) (w : ℕ) (es : List Event) (s : Step) (e : Eve
 near-of all w es s e h =
     and-parts (near w es e) (clear all es e s) (and-parts (fits-step es e (s .kind) (s .tests)) (near w es e && clear all es e s) h .1) .0
 
+pub fits-of : (all : List Event) (w : ℕ) (es : List Event) (s : Step) (e : Event) → goes-on all w es s e ≡ true → fits-step es e (s .kind) (s .tests) ≡ true
+fits-of all w es s e h = and-parts (fits-step es e (s .kind) (s .tests)) (near w es e && clear all es e s) h .0
+
 -- from its first event to its last a row goes up, by no more than the window
 pub record Short (w : ℕ) (es : List Event) : Type 0 where
   pub up : first-of es .time ≤ last-of es .time

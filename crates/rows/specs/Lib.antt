@@ -5,3 +5,4 @@ pub mod Newly
 pub mod Search
 pub mod Finding
 pub mod SearchLaws
+pub mod Fitting

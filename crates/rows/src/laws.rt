@@ -1,6 +1,7 @@
 // The laws of rows, each owed by a small function: theorems about the definitions alone, for every pattern and all events.
 ghost use Rattle.rows.specs.Laws.{Known-stays, Sorted-right, Told-once, Held-enough, Grows};
 ghost use Rattle.rows.specs.Newly.{Newly-held, Ends-held, Held-later, Never-stale};
+ghost use Rattle.rows.specs.Fitting.{All-that-fit, No-row-twice};
 
 // What is known stays known, and comes first.
 pub fn known_stays() -> u8
@@ -61,6 +62,20 @@ pub fn held_later() -> u8
 // An event that isn't too late is not let go as it comes.
 pub fn never_stale() -> u8
     ensures { λ _. ⌜ Never-stale ⌝ }
+{
+    0
+}
+
+// All rows of a pattern are all that fit, and no others.
+pub fn all_that_fit() -> u8
+    ensures { λ _. ⌜ All-that-fit ⌝ }
+{
+    0
+}
+
+// No row stands twice among them.
+pub fn no_row_twice() -> u8
+    ensures { λ _. ⌜ No-row-twice ⌝ }
 {
     0
 }

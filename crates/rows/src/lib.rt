@@ -2,6 +2,7 @@
 mod laws;
 mod search;
 
+pub use laws::all_that_fit;
 pub use laws::ends_held;
 pub use laws::grows;
 pub use laws::held_enough;
@@ -9,6 +10,7 @@ pub use laws::held_later;
 pub use laws::known_stays;
 pub use laws::never_stale;
 pub use laws::newly_held;
+pub use laws::no_row_twice;
 pub use laws::sorted_right;
 pub use laws::told_once;
 pub use search::Cursor;
