@@ -2,3 +2,5 @@ pub mod Patterns
 pub mod Limits
 pub mod Numbers
 pub mod Kept
+pub mod Codes
+pub mod Named

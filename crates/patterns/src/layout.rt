@@ -1,0 +1,23 @@
+// The limits of a pattern, and where its words stand: three in front, then steps, each a kind, tests and nevers.
+
+pub const MOST_STEPS: usize = 6;
+
+pub const MOST_NEVERS: usize = 2;
+
+pub const MOST_TESTS: usize = 4;
+
+// How many words: a test; a count and four tests; a never; a step; a pattern.
+pub const TEST: usize = 5;
+
+pub const TESTS: usize = 21;
+
+pub const NEVER: usize = 22;
+
+pub const STEP: usize = 67;
+
+pub const PATTERN: usize = 405;
+
+// Where the steps begin in a pattern, and the nevers in a step.
+pub const STEPS: usize = 3;
+
+pub const NEVERS: usize = 22;
