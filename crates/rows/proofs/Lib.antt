@@ -9,9 +9,13 @@ mod Positions
 mod Rising
 mod Picks
 mod Steps
+mod Moves
+mod Following
+mod Chosen
 mod OneLast
 mod ByLast
 pub mod AllFound
 mod Among
 mod Along
 mod Fitting
+pub mod Resuming

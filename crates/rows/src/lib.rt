@@ -1,6 +1,7 @@
 // Rows of events that fit a pattern: what they are, and how they are found.
 mod laws;
 mod search;
+mod searched;
 
 pub use laws::all_that_fit;
 pub use laws::ends_held;
@@ -15,3 +16,8 @@ pub use laws::sorted_right;
 pub use laws::told_once;
 pub use search::Cursor;
 pub use search::Found;
+pub use searched::goes_on;
+pub use searched::is_over;
+pub use searched::rest_is;
+pub use searched::rows_in_order;
+pub use searched::rows_of_one;
