@@ -20,6 +20,7 @@ use Rattle.rows.specs.Known.{heard-to, too-late, held, is-held, with-number}
 use Rattle.rows.specs.Newly.{settled, Held-later, Never-stale}
 use Rattle.rows.proofs.Newly.{held-later, never-stale}
 use Rattle.listener.specs.Machine.{below-run}
+use Rattle.listener.specs.Holding.{held-list}
 use Rattle.listener.proofs.Fronts.{Lower, front-passes, back-fails, time-lower, below-run-is, drop-front, below-run-drop, below-run-most}
 
 -- numbered as they came: rising, and all below a number
@@ -40,9 +41,20 @@ numbered-more n es f (h, a) = (
   all-append (λ e. e .heard < suc n) es (with-number n f ∷ []) (all-map (λ e. e .heard < n) (λ e. e .heard < suc n) (λ e l. omega arith) es a) (omega arith, tt),
 )
 
--- the events that have to be held, in order of time
-unfoldable pub held-list : Pattern → List Event → List Event
-held-list p es = sorted (those (is-held p (heard-to p es)) es)
+heard-less : (j k : ℕ) (es : List Event) → j ≤ k → each-heard k es ≡ true → each-heard j es ≡ true
+unfolding each-heard
+heard-less j k [] l h = refl
+heard-less j k (e ∷ es) l h = grind (arith, tells)
+
+-- some of the events are numbered as they came too
+pub heard-those : (z : Event → Bool) (k : ℕ) (es : List Event) → each-heard k es ≡ true → each-heard k (those z es) ≡ true
+unfolding each-heard those
+heard-those z k [] h = refl
+heard-those z k (e ∷ es) h =
+    let q = and-parts (ltb k (suc (e .heard))) (each-heard (suc (e .heard)) es) h in
+    let ih = heard-those z (suc (e .heard)) es (q .1) in
+    let less = heard-less k (suc (e .heard)) (those z es) (omega (arith, ltb-true k (suc (e .heard)) (q .0))) ih in
+    grind arith
 
 those-fewer : (y z : Event → Bool) → ((e : Event) → y e ≡ true → z e ≡ true) → (es : List Event) → length (those y es) ≤ length (those z es)
 unfolding those

@@ -4,3 +4,7 @@ mod Steps
 mod Tells
 mod Fronts
 mod Holding
+mod Hearing
+mod Counts
+mod Counted
+mod Waiting

@@ -18,6 +18,7 @@ use Rattle.rows.specs.Known.{numbers}
 use Rattle.rows.specs.Search.{forward}
 use Rattle.rows.specs.Finding.{six, row-of, to-come, placed, behind, found-first, next-found}
 use Rattle.rows.specs.SearchLaws.{Goes-on, Is-over}
+use Rattle.rows.proofs.Resuming.{goes-on-proof, is-over-proof}
 use Rattle.rows.specs.declared.search.Cursor.{Cursor}
 use Rattle.rows.specs.declared.search.Found.{Found}
 use Rattle.listener.specs.declared.head.Phase.{Phase}
@@ -82,7 +83,7 @@ next-depth h p upto c f e = first-depth h p c f (placed (length h) upto (length 
 abbrev pub told : List Event → List (List ℕ) → List (List ℕ)
 told h paths = each (λ path. numbers (row-of h path)) paths
 
-module _ (goes-on : Goes-on) (is-over : Is-over) (p : Pattern) (cells ring : List ℕ) (kept : Kept-as cells p) (ph : Phase)
+module _ (p : Pattern) (cells ring : List ℕ) (kept : Kept-as cells p) (ph : Phase)
     (next-is : (h : Head) → Sound h cells ring → own .step (memory-of ph h cells ring) next ≡ tell-from ph h cells ring (cursor-of cells h)) where
   abbrev Tells : (List ℕ → Type 0) → List (List ℕ) → Head → Cursor → Type 0
   Tells D rs h c =
@@ -102,7 +103,7 @@ module _ (goes-on : Goes-on) (is-over : Is-over) (p : Pattern) (cells ring : Lis
   unfolding each Goes-on Is-over
   one-more D r rs h c f ih s six-long coming e d =
       let H : List Event = events ring (h .start) (h .len) in
-      let g = goes-on H p (h .upto) c f e in
+      let g = goes-on-proof H p (h .upto) c f e in
       let is-r : g .0 ≡ r = cc in
       let is-rs : to-come H p (h .upto) (f .next) ≡ rs = cc in
       let long : length (numbers (row-of H r)) ≡ kept-count cells = length-row H r ∙ ap length (sym is-r) ∙ g .3 ∙ sym (kept .count) in
@@ -129,11 +130,11 @@ module _ (goes-on : Goes-on) (is-over : Is-over) (p : Pattern) (cells ring : Lis
   unfolding each Goes-on Is-over
   by-found D [] h c None ih s z coming at-place e d = (refl, d)
   by-found D (r ∷ rs) h c None ih s z coming at-place e d =
-      let none = is-over (events ring (h .start) (h .len)) p (h .upto) c at-place e in
+      let none = is-over-proof (events ring (h .start) (h .len)) p (h .upto) c at-place e in
       let q : _≡_ {A = ℕ} 0 1 = cc in
       absurd (omega arith)
   by-found D [] h c (Some f) ih s z coming at-place e d =
-      let g = goes-on (events ring (h .start) (h .len)) p (h .upto) c f e in
+      let g = goes-on-proof (events ring (h .start) (h .len)) p (h .upto) c f e in
       let g₁ = g .1 in
       let q : _≡_ {A = ℕ} 0 1 = cc in
       absurd (omega arith)
