@@ -30,6 +30,7 @@ use Rattle.listener.specs.declared.head.Head.{Head}
 use Rattle.listener.specs.Machine.{room, no-places, a-head, below-run, memory-of, settled-head, settled}
 use Rattle.listener.specs.Holding.{held-list, waiting-head, zero-ring, waiting-memory}
 use Rattle.listener.proofs.Fronts.{Lower, front-passes, back-fails, time-lower, below-run-is, below-run-drop, below-run-most, below-run-grows}
+use Rattle.listener.proofs.Steps.{Sound}
 use Rattle.listener.proofs.Holding.{Numbered, numbered-more, came, new, with-came, mark-grows, stale-is, forgotten, known-is, upto-is, heard-those}
 use Rattle.listener.proofs.Counts.{zero-long, listed-few, listed-back, mark, mark₁, known, stale, upto, telling}
 
@@ -169,3 +170,23 @@ module _ (p : Pattern) (n : ℕ) (es : List Event) (f : Event) (num : Numbered n
 
   pub placed-is : 1 ≤ length (p .steps) → length (p .steps) ≤ 6 → placed (length listed) u (length (p .steps)) (begin-at k) ≡ true
   placed-is some six = placed-first (length listed) u (length (p .steps)) k some six u-most up-to
+
+  pub sound-telling :
+      s < capacity → n < 4611686018427387904 → latest (new p n es f num in-time) < 4611686018427387904 → length (pattern-cells p) ≡ 405
+      → suc n < 4611686018427387904 → Sound (telling p n es f num in-time s few) (pattern-cells p) (laid zero-ring s listed)
+  sound-telling r l t wide l₁ =
+      let a = listed-few p n es f num in-time s few in
+      let b = u-most in
+      let d = up-to in
+      let g = gone-first in
+      record {
+        places = refl;
+        ok = head-ok (suc n) (latest (new p n es f num in-time)) s (length listed) k u gone l₁ t r a d b g;
+        wide = wide;
+        long = laid-long zero-ring s listed ∙ zero-long;
+      }
+    where
+      head-ok :
+          (c t s l k u g : ℕ) → c < 4611686018427387904 → t < 4611686018427387904 → s < capacity → l ≤ suc room → k ≤ u → u ≤ l → g ≤ u
+          → a-head (record { count = c; latest = t; start = s; len = l; known = k; upto = u; stale = g; at = no-places }) ≡ true
+      head-ok c t s l k u g h₁ h₂ h₃ h₄ h₅ h₆ h₇ = grind (arith, tells)

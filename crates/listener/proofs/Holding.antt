@@ -35,10 +35,13 @@ heard-snoc k n (x ∷ es) f l e h a =
     let ih = heard-snoc (suc (x .heard)) n es f (a .0) e (p .1) (a .1) in
     rw (p .0) ih
 
+pub numbered-later : (n : ℕ) (es : List Event) → Numbered n es → Numbered (suc n) es
+numbered-later n es (h, a) = (h, all-map (λ e. e .heard < n) (λ e. e .heard < suc n) (λ e l. omega arith) es a)
+
 pub numbered-more : (n : ℕ) (es : List Event) (f : Event) → Numbered n es → Numbered (suc n) (es ++ with-number n f ∷ [])
 numbered-more n es f (h, a) = (
   heard-snoc 0 n es (with-number n f) (omega arith) refl h a,
-  all-append (λ e. e .heard < suc n) es (with-number n f ∷ []) (all-map (λ e. e .heard < n) (λ e. e .heard < suc n) (λ e l. omega arith) es a) (omega arith, tt),
+  all-append (λ e. e .heard < suc n) es (with-number n f ∷ []) (numbered-later n es (h, a) .1) (omega arith, tt),
 )
 
 heard-less : (j k : ℕ) (es : List Event) → j ≤ k → each-heard k es ≡ true → each-heard j es ≡ true

@@ -1,51 +1,68 @@
--- The listener while it waits: its memory is that of what came, and each event leads from one such memory to the next.
+-- The listener while it waits: its memory is that of what came, and each event, and the end, leads on from one such memory as it should.
 use mathlib.Core.Path.{_≡_, refl, sym, ap, ap₂, subst, _∙_}
 use mathlib.Core.Bool.{Bool, true, false, _&&_, not}
 use mathlib.Core.List.{List, [], _∷_, _++_}
 use mathlib.Core.Logic.{_⊎_, inl, inr}
-use Prim.Native.Nat.{ℕ, zero, suc, _+_, _-_, _%_, _≤_, _<_}
+use Prim.Native.Nat.{ℕ, suc, _+_, _-_, _%_, _≤_, _<_}
+use native.Mathlib.Numerals.{add-one}
 use native.Mathlib.Omega.{arith}
-use lib.Dec.{eqb, ltb, leb}
-use lib.ListN.{length, drop, replicate}
-use Rattle.std.proofs.shelf.Lists.{length-replicate}
-use Rattle.std.proofs.shelf.Tests.{ltb-true, ltb-false, leb-true, and-parts}
+use lib.Dec.{ltb, leb}
+use lib.ListN.{length}
+use Rattle.std.proofs.shelf.Tests.{ltb-true, ltb-false, and-parts}
 use Rattle.std.proofs.shelf.Ways.{tells as by-tests}
 use Rattle.timeline.specs.declared.events.Event.{Event}
-use Rattle.timeline.specs.Lists.{pick, those, every, each}
-use Rattle.timeline.specs.Order.{before, put, sorted, latest, each-heard}
+use Rattle.timeline.specs.Lists.{pick, those, each}
+use Rattle.timeline.specs.Order.{before, sorted, nth, last-of, latest, each-heard}
 use Rattle.timeline.specs.Ring.{capacity, ring-long, events, laid}
-use Rattle.timeline.proofs.Laid.{laid-long, events-of-laid, laid-over, laid-forget}
+use Rattle.timeline.proofs.Sorting.{Ord}
+use Rattle.timeline.proofs.Order.{sorted-ord, length-sorted, latest-snoc}
+use Rattle.timeline.proofs.Laid.{laid-long, events-of-laid}
 use Rattle.patterns.specs.Patterns.{Pattern, named}
-use Rattle.patterns.specs.Limits.{a-pattern, an-event}
-use Rattle.patterns.specs.Kept.{pattern-cells, kept-pattern, kept-count}
-use Rattle.rows.specs.Known.{heard-to, too-late, held, is-held, with-number, newly}
+use Rattle.patterns.specs.Limits.{an-event}
+use Rattle.patterns.specs.Kept.{pattern-cells}
+use Rattle.rows.specs.Known.{heard-to, too-late, held, is-held, numbers, newly, with-number}
+use Rattle.rows.specs.Newly.{Ends-held}
+use Rattle.rows.specs.Finding.{placed, to-come}
+use Rattle.rows.specs.SearchLaws.{begin-at, same, Just}
+use Rattle.rows.proofs.Newly.{ends-held}
+use Rattle.rows.proofs.AllFound.{rest-told}
 use Rattle.listener.specs.declared.head.Phase.the-variants.{Waiting, Telling, Ending}
 use Rattle.listener.specs.declared.head.Head.{Head}
-use Rattle.listener.specs.Engine.{Act, waits, late, over, refused, Stepped, comes, next}
+use Rattle.listener.specs.Engine.{Act, waits, late, over, refused, Stepped, ends}
 use Rattle.listener.specs.Promise.{said}
-use Rattle.listener.specs.Machine.{room, memory-of, a-head, below-run, hear, heard, counted-head, own}
+use Rattle.listener.specs.Machine.{room, a-head, below-run, stale-with, tell-from, memory-of, settled, counted-head, ending-head, heard, own}
 use Rattle.listener.specs.Holding.{held-list, waiting-head, zero-ring, waiting-memory}
-use Rattle.listener.proofs.Runs.{Telling as Tells-then}
-use Rattle.listener.proofs.Steps.{Sound, comes-waiting, ends-waiting}
-use Rattle.listener.proofs.Tells.{Kept-as, tells-all}
-use Rattle.listener.proofs.Fronts.{below-run-most}
-use Rattle.listener.proofs.Holding.{Numbered, numbered-more}
+use Rattle.listener.proofs.Runs.{Telling as Tells-then, Good, most, left-over}
+use Rattle.listener.proofs.Steps.{Sound, comes-waiting, ends-waiting, next-telling, next-ending}
+use Rattle.listener.proofs.Tells.{Kept-as, told, tells-all}
+use Rattle.listener.proofs.Fronts.{front-passes, back-fails, time-lower, below-run-is, below-run-most}
+use Rattle.listener.proofs.Holding.{Numbered, numbered-later, numbered-more, heard-those, new, with-came, held-is}
+use Rattle.listener.proofs.Hearing.{heard-late, heard-full, heard-counts}
+use Rattle.listener.proofs.Counts.{zero-long, listed-back, stale, stale-same, telling, telling-is, ring-is}
+use Rattle.listener.proofs.Counted.{placed-first, told-is, settled-is, placed-is, sound-telling}
+
+-- times are below 2^62
+abbrev time-limit : ℕ
+time-limit = 4611686018427387904
 
 -- the memory of what came: n events, of which es counted
 pub record Waits (p : Pattern) (m : List ℕ) (n : ℕ) (es : List Event) : Type 0 where
   pub slot : ℕ
   pub round : slot < capacity
   pub numbered : Numbered n es
-  pub early : latest es < 4611686018427387904
+  pub early : latest es < time-limit
   pub few : length (held-list p es) ≤ room
   pub whole : m ≡ waiting-memory p n es slot
 
-zero-long : length zero-ring ≡ ring-long
-zero-long = length-replicate {A = ℕ} ring-long 0
-
 module _ (p : Pattern) (kept : Kept-as (pattern-cells p) p) where
-  sound : (n : ℕ) (es : List Event) (s : ℕ) → n < 4611686018427387904 → s < capacity → latest es < 4611686018427387904 → length (held-list p es) ≤ room
-      → Sound (waiting-head p n es s) (pattern-cells p) (laid zero-ring s (held-list p es))
+  abbrev cells : List ℕ
+  cells = pattern-cells p
+
+  abbrev ring-at : List Event → ℕ → List ℕ
+  ring-at es s = laid zero-ring s (held-list p es)
+
+  sound : (n : ℕ) (es : List Event) (s : ℕ) → n < time-limit → s < capacity → latest es < time-limit → length (held-list p es) ≤ room
+      → Sound (waiting-head p n es s) cells (ring-at es s)
   sound n es s l r t few =
       record {
         places = refl;
@@ -53,3 +70,114 @@ module _ (p : Pattern) (kept : Kept-as (pattern-cells p) p) where
         wide = kept .wide;
         long = laid-long zero-ring s (held-list p es) ∙ zero-long;
       }
+
+  -- an event comes while the listener waits
+  heard-is :
+      (n : ℕ) (es : List Event) (s : ℕ) (f : Event) → Sound (waiting-head p n es s) cells (ring-at es s) → an-event f ≡ true
+      → own .step (waiting-memory p n es s) (said f) ≡ heard (waiting-head p n es s) cells (ring-at es s) (with-number n f)
+  heard-is n es s f ok e = comes-waiting (waiting-head p n es s) cells (ring-at es s) ok (f .time) (f .kind) (f .who) (f .value) e
+
+  too-late-waits :
+      (m : List ℕ) (n : ℕ) (es : List Event) (f : Event) → n < most → Waits p m n es → an-event f ≡ true → too-late p es f ≡ true
+      → Tells-then own (λ m₁. Waits p m₁ (suc n) es) late (own .step m (said f)) []
+  too-late-waits m n es f l w e q =
+      let s = w .slot in
+      let ok = sound n es s (omega arith) (w .round) (w .early) (w .few) in
+      let step : own .step m (said f) ≡ record { memory = memory-of Waiting (counted-head (waiting-head p n es s)) cells (ring-at es s); act = late } =
+      ap (λ (x : List ℕ). own .step x (said f)) (w .whole) ∙ heard-is n es s f ok e ∙ heard-late p cells (kept .means) (waiting-head p n es s) (ring-at es s) (with-number n f) q in (
+        ap (λ (st : Stepped). st .act) step,
+        record {
+          slot = s;
+          round = w .round;
+          numbered = numbered-later n es (w .numbered);
+          early = w .early;
+          few = w .few;
+          whole = ap (λ (st : Stepped). st .memory) step ∙ ap (λ (c : ℕ). waiting-memory p c es s) (add-one n);
+        },
+      )
+
+  module _ (m : List ℕ) (n : ℕ) (es : List Event) (f : Event) (l : n < most) (w : Waits p m n es) (e : an-event f ≡ true) (q : too-late p es f ≡ false) where
+    abbrev s : ℕ
+    s = w .slot
+
+    abbrev num : Numbered n es
+    num = w .numbered
+
+    abbrev h : Head
+    h = waiting-head p n es s
+
+    abbrev now-held : List ℕ
+    now-held = ring-at es s
+
+    abbrev more : List Event
+    more = es ++ with-number n f ∷ []
+
+    abbrev room-test : Bool
+    room-test = ltb room (h .len - stale-with p h (events now-held s (h .len)) (with-number n f) + pick (named p (with-number n f)) 1 0)
+
+    ok : Sound h cells now-held
+    ok = sound n es s (omega arith) (w .round) (w .early) (w .few)
+
+    room-is : room-test ≡ ltb room (held p more)
+    room-is =
+        ap (λ (k : ℕ). ltb room (length (held-list p es) - k + pick (named p (with-number n f)) 1 0)) (stale-same p n es f num q s (w .few))
+        ∙ ap (ltb room) (held-is p n es f num q)
+
+    came-is : own .step m (said f) ≡ heard h cells now-held (with-number n f)
+    came-is = ap (λ (x : List ℕ). own .step x (said f)) (w .whole) ∙ heard-is n es s f ok e
+
+    full : room-test ≡ true → Tells-then own (λ m₁. Unit) (refused 8) (own .step m (said f)) [] × (room < held p more)
+    full r = (
+      (ap (λ (st : Stepped). st .act) (came-is ∙ heard-full p cells (kept .means) h now-held (with-number n f) q r), tt),
+      ltb-true room (held p more) (sym room-is ∙ r),
+    )
+
+    abbrev listed : List Event
+    listed = with-came p n es f num q
+
+    abbrev told-in : Head
+    told-in = telling p n es f num q s (w .few)
+
+    abbrev with-it : List ℕ
+    with-it = laid zero-ring s listed
+
+    early-more : latest more < time-limit
+    early-more =
+        let t = ltb-true (f .time) time-limit (and-parts (ltb (f .time) time-limit) (ltb (f .kind) 65536) (and-parts _ _ e .0) .0) in
+        subst (λ (x : ℕ). x < time-limit) (sym (latest-snoc es (with-number n f))) (both (latest es) (f .time) (w .early) t)
+      where
+        both : (a b : ℕ) → a < time-limit → b < time-limit → pick (ltb a b) b a < time-limit
+        both a b x y = grind (arith, by-tests)
+
+    next-waits : room-test ≡ false → Waits p (settled Telling told-in cells with-it .memory) (suc n) more
+    unfolding held-list
+    next-waits r =
+        record {
+          slot = (s + stale p n es f num q s (w .few)) % capacity;
+          round = omega arith;
+          numbered = numbered-more n es f num;
+          early = early-more;
+          few = omega (arith, length-sorted (those (is-held p (heard-to p more)) more), ltb-false room (held p more) (sym room-is ∙ r));
+          whole = settled-is p n es f num q s (w .few);
+        }
+
+    told-step : room-test ≡ false → own .step m (said f) ≡ tell-from Telling told-in cells with-it (begin-at (h .known))
+    told-step r =
+        came-is ∙ heard-counts p cells (kept .means) h now-held (with-number n f) q r
+        ∙ ap₂ (λ (x : Head) (y : List ℕ). tell-from Telling x cells y (begin-at (h .known))) (telling-is p n es f num q s (w .few)) (ring-is p n es f num q s (w .few))
+
+    counts : room-test ≡ false → Tells-then own (λ m₁. Waits p m₁ (suc n) more) waits (own .step m (said f)) (newly p es more)
+    counts r =
+        let D : List ℕ → Type 0 = λ m₁. Waits p m₁ (suc n) more in
+        let back = listed-back p n es f num q s (w .few) in
+        let rows : List (List ℕ) = told (events with-it s (length listed)) (to-come (events with-it s (length listed)) p (told-in .upto) (begin-at (h .known))) in
+        let rows-are : rows ≡ newly p es more =
+        ap (λ (xs : List Event). told xs (to-come xs p (told-in .upto) (begin-at (h .known)))) back ∙ told-is p n es f num q s (w .few) (kept .some) in
+        let t : Tells-then own D waits (tell-from Telling told-in cells with-it (begin-at (h .known))) rows =
+        tells-all p cells with-it kept Telling (λ x y. next-telling x cells with-it y) D
+        (to-come (events with-it s (length listed)) p (told-in .upto) (begin-at (h .known))) told-in (begin-at (h .known))
+        (sound-telling p n es f num q s (w .few) (w .round) (omega arith) early-more (kept .wide) (omega arith)) refl refl
+        (subst (λ (xs : List Event). placed (length xs) (told-in .upto) (length (p .steps)) (begin-at (h .known)) ≡ true) (sym back) (placed-is p n es f num q s (w .few) (kept .some) (kept .few)))
+        (next-waits r) in
+        subst (λ (xs : List (List ℕ)). Tells-then own D waits (own .step m (said f)) xs) rows-are
+        (subst (λ (st : Stepped). Tells-then own D waits st rows) (sym (told-step r)) t)
