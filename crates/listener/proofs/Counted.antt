@@ -37,7 +37,7 @@ use Rattle.listener.proofs.Counts.{zero-long, listed-few, listed-back, mark, m
 settled-lower : (a : ℕ) (c : Event) → Lower (was-settled a c)
 settled-lower a c x y q h = grind (arith, tells)
 
-same-time : (x y : Event) → same x y ≡ true → x .time ≡ y .time
+pub same-time : (x y : Event) → same x y ≡ true → x .time ≡ y .time
 same-time x y h = grind (arith, tells)
 
 same-number : (x y : Event) → same x y ≡ true → x .heard ≡ y .heard

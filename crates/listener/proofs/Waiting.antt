@@ -30,7 +30,7 @@ use Rattle.listener.specs.declared.head.Phase.the-variants.{Waiting, Telling, 
 use Rattle.listener.specs.declared.head.Head.{Head}
 use Rattle.listener.specs.Engine.{Act, waits, late, over, refused, Stepped, ends}
 use Rattle.listener.specs.Promise.{said}
-use Rattle.listener.specs.Machine.{room, a-head, below-run, stale-with, tell-from, memory-of, settled, counted-head, ending-head, heard, own}
+use Rattle.listener.specs.Machine.{room, no-places, a-head, below-run, stale-with, tell-from, memory-of, settled, counted-head, ending-head, heard, own}
 use Rattle.listener.specs.Holding.{held-list, waiting-head, zero-ring, waiting-memory}
 use Rattle.listener.proofs.Runs.{Telling as Tells-then, Good, most, left-over}
 use Rattle.listener.proofs.Steps.{Sound, comes-waiting, ends-waiting, next-telling, next-ending}
@@ -39,7 +39,7 @@ use Rattle.listener.proofs.Fronts.{front-passes, back-fails, time-lower, below
 use Rattle.listener.proofs.Holding.{Numbered, numbered-later, numbered-more, heard-those, new, with-came, held-is}
 use Rattle.listener.proofs.Hearing.{heard-late, heard-full, heard-counts}
 use Rattle.listener.proofs.Counts.{zero-long, listed-back, stale, stale-same, telling, telling-is, ring-is}
-use Rattle.listener.proofs.Counted.{placed-first, told-is, settled-is, placed-is, sound-telling}
+use Rattle.listener.proofs.Counted.{same-time, placed-first, told-is, settled-is, placed-is, sound-telling}
 
 -- times are below 2^62
 abbrev time-limit : ℕ
@@ -181,3 +181,96 @@ module _ (p : Pattern) (kept : Kept-as (pattern-cells p) p) where
         (next-waits r) in
         subst (λ (xs : List (List ℕ)). Tells-then own D waits (own .step m (said f)) xs) rows-are
         (subst (λ (st : Stepped). Tells-then own D waits st rows) (sym (told-step r)) t)
+
+  -- nothing more comes
+  module _ (m : List ℕ) (n : ℕ) (es : List Event) (l : n ≤ most) (w : Waits p m n es) where
+    abbrev at-slot : ℕ
+    at-slot = w .slot
+
+    abbrev all-held : List Event
+    all-held = held-list p es
+
+    abbrev mark : ℕ
+    mark = heard-to p es
+
+    abbrev known-ones : ℕ
+    known-ones = below-run (mark + 1) all-held
+
+    abbrev ending : Head
+    ending = ending-head (waiting-head p n es at-slot)
+
+    held-ord : Ord before all-held
+    unfolding held-list
+    held-ord = sorted-ord (those (is-held p mark) es)
+
+    all-back : events (ring-at es at-slot) at-slot (length all-held) ≡ all-held
+    all-back = events-of-laid zero-ring at-slot all-held zero-long (omega (arith, w .few))
+
+    sound-ending : Sound ending cells (ring-at es at-slot)
+    sound-ending =
+        record {
+          places = refl;
+          ok = ok-ending n (latest es) at-slot (length all-held) known-ones (omega arith) (w .early) (w .round) (w .few) (below-run-most (mark + 1) all-held);
+          wide = kept .wide;
+          long = laid-long zero-ring at-slot all-held ∙ zero-long;
+        }
+      where
+        ok-ending :
+            (c t s l k : ℕ) → c < time-limit → t < time-limit → s < capacity → l ≤ room → k ≤ l
+            → a-head (record { count = c; latest = t; start = s; len = l; known = k; upto = l; stale = l; at = no-places }) ≡ true
+        ok-ending c t s l k h₁ h₂ h₃ h₄ h₅ = grind (arith, by-tests)
+
+    just-left : Just all-held (λ x. ltb mark (x .time)) known-ones (length all-held)
+    just-left =
+        let run-is = below-run-is (mark + 1) all-held held-ord in
+        record {
+          alike = λ x y h. ap (ltb mark) (same-time x y h);
+          lower = λ i a. let t = front-passes (λ x. ltb (x .time) (mark + 1)) (time-lower (mark + 1)) all-held held-ord i (omega (arith, run-is)) in known-one (nth all-held i) mark t;
+          mid = λ i a b. let t = back-fails (λ x. ltb (x .time) (mark + 1)) (time-lower (mark + 1)) all-held held-ord i (omega (arith, run-is)) b in left-one (nth all-held i) mark t;
+          upper = λ i a b. absurd (omega arith);
+        }
+      where
+        known-one : (x : Event) (a : ℕ) → ltb (x .time) (a + 1) ≡ true → ltb a (x .time) ≡ false
+        known-one x a h = grind (arith, by-tests)
+
+        left-one : (x : Event) (a : ℕ) → ltb (x .time) (a + 1) ≡ false → ltb a (x .time) ≡ true
+        left-one x a h = grind (arith, by-tests)
+
+    left-told : told all-held (to-come all-held p (length all-held) (begin-at known-ones)) ≡ left-over p es
+    unfolding held-list Ends-held
+    left-told =
+        rest-told p (those (is-held p mark) es) (λ x. ltb mark (x .time)) known-ones (length all-held)
+        (heard-those (is-held p mark) 0 es (w .numbered .0)) (kept .some) (below-run-most (mark + 1) all-held) (omega arith) just-left
+        ∙ ap (each numbers) (sym (ends-held p es))
+
+    pub ends-over : Tells-then own (λ m₁. Unit) over (own .step m ends) (left-over p es)
+    ends-over =
+        let here : List Event = events (ring-at es at-slot) at-slot (length all-held) in
+        let rows : List (List ℕ) = told here (to-come here p (length all-held) (begin-at known-ones)) in
+        let rows-are : rows ≡ left-over p es = ap (λ (xs : List Event). told xs (to-come xs p (length all-held) (begin-at known-ones))) all-back ∙ left-told in
+        let t : Tells-then own (λ m₁. Unit) over (tell-from Ending ending cells (ring-at es at-slot) (begin-at known-ones)) rows =
+        tells-all p cells (ring-at es at-slot) kept Ending (λ x y. next-ending x cells (ring-at es at-slot) y) (λ m₁. Unit)
+        (to-come here p (length all-held) (begin-at known-ones)) ending (begin-at known-ones) sound-ending refl refl
+        (subst (λ (xs : List Event). placed (length xs) (length all-held) (length (p .steps)) (begin-at known-ones) ≡ true) (sym all-back)
+        (placed-first (length all-held) (length all-held) (length (p .steps)) known-ones (kept .some) (kept .few) (omega arith) (below-run-most (mark + 1) all-held))) tt in
+        let step : own .step m ends ≡ tell-from Ending ending cells (ring-at es at-slot) (begin-at known-ones) =
+        ap (λ (x : List ℕ). own .step x ends) (w .whole)
+        ∙ ends-waiting (waiting-head p n es at-slot) cells (ring-at es at-slot) (sound n es at-slot (omega arith) (w .round) (w .early) (w .few)) in
+        subst (λ (xs : List (List ℕ)). Tells-then own (λ m₁. Unit) over (own .step m ends) xs) rows-are
+        (subst (λ (st : Stepped). Tells-then own (λ m₁. Unit) over st rows) (sym step) t)
+
+  pub good : Good own p (Waits p)
+  good =
+      record {
+        too = too-late-waits;
+        not-too = λ m n es f l w e q. by-room m n es f l w e q (room-test m n es f l w e q) refl;
+        last = ends-over;
+      }
+    where
+      by-room :
+          (m : List ℕ) (n : ℕ) (es : List Event) (f : Event) (l : n < most) (w : Waits p m n es) (e : an-event f ≡ true) (q : too-late p es f ≡ false)
+          (b : Bool) → room-test m n es f l w e q ≡ b
+          → Tells-then own (λ m₁. Waits p m₁ (suc n) (es ++ with-number n f ∷ [])) waits (own .step m (said f)) (newly p es (es ++ with-number n f ∷ []))
+          ⊎ (Tells-then own (λ m₁. Unit) (refused 8) (own .step m (said f)) [] × (8192 < held p (es ++ with-number n f ∷ [])))
+      by-room m n es f l w e q true r = inr (full m n es f l w e q r)
+      by-room m n es f l w e q false r = inl (counts m n es f l w e q r)
