@@ -1,3 +1,7 @@
 pub mod Runs
 pub mod Steps
 mod Tests
+mod Laying
+mod Parts
+mod May
+mod Wholes

@@ -1,9 +1,13 @@
 // Patterns as numbers: read, checked and kept in a fixed layout; tests and nevers tried.
 mod fields;
+mod keeping;
 mod kept;
 mod layout;
+mod reading;
 mod tries;
 
 pub use fields::Field;
 pub use fields::Sign;
+pub use keeping::Refusal;
+pub use keeping::keep;
 pub use kept::Kept;
