@@ -1,4 +1,5 @@
 mod Placing
 pub mod Lists
+pub mod Each
 pub mod Sorting
 pub mod Order
