@@ -8,3 +8,6 @@ pub mod Newly
 mod Among
 mod Along
 mod Fitting
+mod Renumbered
+mod Sorted
+mod Exchanged

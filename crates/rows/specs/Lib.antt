@@ -5,3 +5,4 @@ pub mod Newly
 pub mod Search
 pub mod Finding
 pub mod Fitting
+pub mod Sorted
