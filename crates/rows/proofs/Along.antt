@@ -1,14 +1,14 @@
 -- The rows that are found, place by place: at each step stands one of all events that may come next behind those before it.
 use mathlib.Core.Path.{_≡_, refl, sym, ap, _∙_}
-use mathlib.Core.Bool.{Bool, true, false}
+use mathlib.Core.Bool.{true}
 use mathlib.Core.List.{List, [], _∷_, _++_, append-assoc, append-nil}
-use mathlib.Core.Logic.{inl, inr}
+use mathlib.Core.Logic.{inl}
 use Prim.Native.Nat.{ℕ, zero, suc, _<_}
 use native.Mathlib.Omega.{arith}
 use native.Mathlib.Nat.{not-suc-le-zero}
 use lib.ListN.{length, take}
 use Rattle.timeline.specs.declared.events.Event.{Event}
-use Rattle.timeline.specs.Lists.{those, flat}
+use Rattle.timeline.specs.Lists.{those}
 use Rattle.timeline.specs.Order.{nth}
 use Rattle.timeline.proofs.Lists.{All, all-map, all-flat, all-those}
 use Rattle.patterns.specs.Patterns.{Step}

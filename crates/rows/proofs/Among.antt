@@ -1,10 +1,10 @@
 -- What is among a list: of filters, flattened and sorted lists, and of tests that hold of some or of none.
-use mathlib.Core.Path.{_≡_, refl, sym, _∙_}
-use mathlib.Core.Bool.{Bool, true, false, _&&_}
+use mathlib.Core.Path.{_≡_, refl}
+use mathlib.Core.Bool.{Bool, true, false}
 use mathlib.Core.List.{List, [], _∷_, _++_}
-use mathlib.Core.Logic.{_⊎_, inl, inr}
+use mathlib.Core.Logic.{inl, inr}
 use native.Mathlib.Omega.{arith}
-use Rattle.timeline.specs.Lists.{pick, or, any, those, flat}
+use Rattle.timeline.specs.Lists.{pick, any, those, flat}
 use Rattle.timeline.proofs.Lists.{All, all-map}
 use Rattle.timeline.proofs.Sorting.{ins, isort, all-isort}
 use Rattle.rows.specs.Fitting.{Among}
@@ -21,6 +21,10 @@ module _ {A : Type 0} where
   unfolding Among
   all-among [] = tt
   all-among (x ∷ xs) = (inl refl, all-map (λ y. Among y xs) (λ y. Among y (x ∷ xs)) (λ y m. inr m) xs (all-among xs))
+
+  pub among-first : (x : A) (xs : List A) → Among x (x ∷ xs)
+  unfolding Among
+  among-first x xs = inl refl
 
   pub among-left : (x : A) (xs ys : List A) → Among x xs → Among x (xs ++ ys)
   unfolding Among

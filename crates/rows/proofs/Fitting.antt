@@ -1,14 +1,14 @@
 -- The rows that are found are those that fit: from the places of a row to what is said of it, and back.
 use mathlib.Core.Path.{_≡_, refl, sym, ap, subst, _∙_}
 use mathlib.Core.Bool.{Bool, true, false, _&&_, not}
-use mathlib.Core.List.{List, [], _∷_, _++_}
+use mathlib.Core.List.{List, [], _∷_}
 use Prim.Native.Nat.{ℕ, zero, suc, _+_, _-_, _≤_, _<_}
 use native.Mathlib.Omega.{arith}
 use native.Mathlib.Nat.{not-suc-le-zero, add-zero}
 use lib.Dec.{leb}
 use lib.ListN.{length, take}
 use lib.Seq.{length-take-le}
-use Rattle.std.proofs.shelf.Tests.{leb-true, le-leb, not-true, not-from-false, and-parts, and-from, and-left}
+use Rattle.std.proofs.shelf.Tests.{leb-true, le-leb, not-true, not-from-false, and-parts, and-from}
 use Rattle.timeline.specs.declared.events.Event.{Event}
 use Rattle.timeline.specs.Lists.{pick, or, any, none-of}
 use Rattle.timeline.specs.Order.{before, sorted, nth, first-of, last-of}

@@ -11,7 +11,7 @@ use Rattle.std.proofs.shelf.Tests.{ltb-false, leb-true, le-leb, lt-ltb, not-tru
 use Rattle.timeline.specs.declared.events.Event.{Event}
 use Rattle.timeline.specs.Lists.{any, those, none-of}
 use Rattle.timeline.specs.Order.{before, nth, sorted, last-of, each-heard}
-use Rattle.timeline.proofs.Lists.{clash, All, Pairs, all-map, all-any, all-append, those-all, those-none, those-append, those-same}
+use Rattle.timeline.proofs.Lists.{clash, All, all-map, all-any, all-append, those-all, those-none, those-append, those-same, pairs-cross}
 use Rattle.timeline.proofs.Sorting.{isort, all-isort, ord-isort, those-isort, those-split}
 use Rattle.timeline.proofs.Order.{sorted-is, before-irr, heard-pairs}
 use Rattle.patterns.specs.Patterns.{Step, fits-step}
@@ -22,14 +22,6 @@ use Rattle.rows.specs.Newly.{settled, fresh}
 use Rattle.rows.proofs.Order.{told-order, in-order-is, grows-proof}
 use Rattle.rows.proofs.Reach.{Short, Reach, rows-last, short-none, last-snoc, before-down}
 use Rattle.rows.proofs.Same.{those-sorted, those-in-order, bad, goes-same, rows-same}
-
-pairs-last : {A : Type 0} (R : A → A → Type 0) (xs : List A) (y : A) → Pairs R (xs ++ y ∷ []) → All (λ x. R x y) xs
-pairs-last R [] y a = tt
-pairs-last R (x ∷ xs) y a = (all-end (R x) xs y (a .0), pairs-last R xs y (a .1))
-  where
-    all-end : {A : Type 0} (Q : A → Type 0) (xs : List A) (y : A) → All Q (xs ++ y ∷ []) → Q y
-    all-end Q [] y a = a .0
-    all-end Q (x ∷ xs) y a = all-end Q xs y (a .1)
 
 settled-down : (mark : ℕ) (f a b : Event) → before a b ≡ false → settled mark f a ≡ true → settled mark f b ≡ true
 settled-down mark f a b h k = grind (arith, tells)
@@ -116,7 +108,9 @@ ended-is w s ss es f old new h l g = split ∙ ap₂ _++_ (sym same) (ap (those 
     was-settled r = settled old f (last-of r)
 
     heard-before : All (λ e. e .heard < f .heard) es
-    heard-before = pairs-last (λ a b. a .heard < b .heard) es f (heard-pairs 0 (es ++ f ∷ []) h)
+    heard-before =
+        all-map (λ a. All (λ b. a .heard < b .heard) (f ∷ [])) (λ a. a .heard < f .heard) (λ a k. k .0) es
+        (pairs-cross (λ a b. a .heard < b .heard) es (f ∷ []) (heard-pairs 0 (es ++ f ∷ []) h))
 
     found-now : List (List Event)
     found-now = rows (sorted (es ++ f ∷ [])) w (s ∷ ss) []

@@ -19,3 +19,6 @@ mod Among
 mod Along
 mod Fitting
 pub mod Resuming
+mod Renumbered
+mod Sorted
+mod Exchanged

@@ -1,6 +1,6 @@
 -- What becomes known, from what is held.
 use mathlib.Core.Path.{_≡_, refl, sym, ap, _∙_}
-use mathlib.Core.Bool.{Bool, true, false, _&&_, not}
+use mathlib.Core.Bool.{Bool, true, _&&_, not}
 use mathlib.Core.List.{List, [], _∷_, _++_}
 use Prim.Native.Nat.{ℕ, _+_, _-_, _≤_}
 use native.Mathlib.Omega.{arith}
@@ -10,8 +10,8 @@ use lib.ListN.{length, drop}
 use Rattle.std.proofs.shelf.Ways.{tells}
 use Rattle.std.proofs.shelf.Tests.{ltb-false, le-leb}
 use Rattle.timeline.specs.declared.events.Event.{Event}
-use Rattle.timeline.specs.Lists.{pick, those}
-use Rattle.timeline.specs.Order.{before, sorted, last-of, latest, each-heard}
+use Rattle.timeline.specs.Lists.{those}
+use Rattle.timeline.specs.Order.{sorted, last-of, latest, each-heard}
 use Rattle.timeline.proofs.Lists.{all-any, those-those, those-same, those-all, drop-front}
 use Rattle.timeline.proofs.Sorting.{isort, ord-isort, those-split}
 use Rattle.timeline.proofs.Order.{latest-snoc}

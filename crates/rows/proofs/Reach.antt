@@ -9,7 +9,7 @@ use lib.ListN.{length, length-append}
 use Rattle.std.proofs.shelf.Ways.{tells}
 use Rattle.std.proofs.shelf.Tests.{and-parts}
 use Rattle.timeline.specs.declared.events.Event.{Event}
-use Rattle.timeline.specs.Lists.{or, those, none-of, flat}
+use Rattle.timeline.specs.Lists.{or, those, none-of}
 use Rattle.timeline.specs.Order.{before, nth, first-of, last-of}
 use Rattle.timeline.proofs.Lists.{All, all-map, all-flat, all-any, all-those}
 use Rattle.timeline.proofs.Order.{before-irr}

@@ -1,12 +1,12 @@
 -- Rows: that they begin as they should, that they are apart, and that they are told once.
 use mathlib.Core.Path.{_≡_, sym, subst, _∙_}
-use mathlib.Core.Bool.{Bool, true, false}
+use mathlib.Core.Bool.{true}
 use mathlib.Core.List.{List, [], _∷_, _++_, append-assoc, append-nil}
-use mathlib.Core.Logic.{_⊎_, inl, inr}
+use mathlib.Core.Logic.{inl, inr}
 use Prim.Native.Nat.{ℕ}
 use lib.ListN.{getD}
 use Rattle.timeline.specs.declared.events.Event.{Event}
-use Rattle.timeline.specs.Lists.{those, flat}
+use Rattle.timeline.specs.Lists.{those}
 use Rattle.timeline.specs.Order.{before, sorted, each-heard}
 use Rattle.timeline.proofs.Lists.{clash, All, Pairs, all-map, all-flat, all-any, pairs-those, pairs-flat, pairs-at}
 use Rattle.timeline.proofs.Sorting.{Apart, Strict, strict-isort}

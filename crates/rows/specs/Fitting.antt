@@ -1,7 +1,7 @@
 -- Which rows fit a pattern, in the words of the subject and not of the search for them; and that the rows found are those, each once.
 -- Statements; the functions of laws.rt owe their proofs. Assumes nothing.
 use mathlib.Core.Path.{_≡_}
-use mathlib.Core.Bool.{Bool, true, false}
+use mathlib.Core.Bool.{true, false}
 use mathlib.Core.List.{List, [], _∷_}
 use mathlib.Core.Logic.{_⊎_}
 use Prim.Native.Nat.{ℕ, suc, _+_, _≤_, _<_}

@@ -6,3 +6,4 @@ pub mod Search
 pub mod Finding
 pub mod SearchLaws
 pub mod Fitting
+pub mod Sorted

@@ -2,6 +2,7 @@
 ghost use Rattle.rows.specs.Laws.{Known-stays, Sorted-right, Told-once, Held-enough, Grows};
 ghost use Rattle.rows.specs.Newly.{Newly-held, Ends-held, Held-later, Never-stale};
 ghost use Rattle.rows.specs.Fitting.{All-that-fit, No-row-twice};
+ghost use Rattle.rows.specs.Sorted.{Sorted-rises, Sorted-keeps, Sorted-any-way, Renumbered, Neighbours};
 
 // What is known stays known, and comes first.
 pub fn known_stays() -> u8
@@ -10,7 +11,7 @@ pub fn known_stays() -> u8
     0
 }
 
-// Two events may be heard of in either order.
+// Which of two events is put in order first doesn't matter.
 pub fn sorted_right() -> u8
     ensures { λ _. ⌜ Sorted-right ⌝ }
 {
@@ -76,6 +77,41 @@ pub fn all_that_fit() -> u8
 // No row stands twice among them.
 pub fn no_row_twice() -> u8
     ensures { λ _. ⌜ No-row-twice ⌝ }
+{
+    0
+}
+
+// Events are put in the order of time.
+pub fn sorted_rises() -> u8
+    ensures { λ _. ⌜ Sorted-rises ⌝ }
+{
+    0
+}
+
+// They are the same ones, each as often.
+pub fn sorted_keeps() -> u8
+    ensures { λ _. ⌜ Sorted-keeps ⌝ }
+{
+    0
+}
+
+// Whichever way they were given, they are put in one order.
+pub fn sorted_any_way() -> u8
+    ensures { λ _. ⌜ Sorted-any-way ⌝ }
+{
+    0
+}
+
+// Numbers matter only among events of the same time.
+pub fn renumbered_rows() -> u8
+    ensures { λ _. ⌜ Renumbered ⌝ }
+{
+    0
+}
+
+// Two neighbours of different times may be heard of the other way round.
+pub fn neighbours() -> u8
+    ensures { λ _. ⌜ Neighbours ⌝ }
 {
     0
 }

@@ -8,5 +8,6 @@ mod Parting
 mod Changing
 pub mod Laid
 pub mod Lists
+pub mod Each
 pub mod Sorting
 pub mod Order

@@ -6,7 +6,7 @@ use Prim.Native.Nat.{ℕ, zero, suc, _<_}
 use lib.ListN.{length, drop, getD}
 use native.Mathlib.Omega.{arith}
 use native.Mathlib.Nat.{not-suc-le-zero}
-use Rattle.timeline.specs.Lists.{pick, or, every, any, those, each, flat}
+use Rattle.timeline.specs.Lists.{pick, or, every, any, those, flat}
 
 -- a test that both holds and fails
 pub clash : {X : Type 0} {b : Bool} → b ≡ true → b ≡ false → X
@@ -147,41 +147,6 @@ module _ {A : Type 0} where
   pairs-at R (x ∷ xs) d a zero (suc j) l h = all-at (R x) xs d (a .0) j (omega arith)
   pairs-at R (x ∷ xs) d a (suc i) (suc j) l h = pairs-at R xs d (a .1) i j (omega arith) (omega arith)
 
--- EACH: a function of each element
-module _ {A B : Type 0} where
-  pub each-append : (g : A → B) (xs ys : List A) → each g (xs ++ ys) ≡ each g xs ++ each g ys
-  unfolding each
-  each-append g [] ys = refl
-  each-append g (x ∷ xs) ys = ap {B = List B} (λ r. g x ∷ r) (each-append g xs ys)
-
-  pub those-each : (f : B → Bool) (g : A → B) (xs : List A) → those f (each g xs) ≡ each g (those (λ x. f (g x)) xs)
-  unfolding those each
-  those-each f g [] = refl
-  those-each f g (x ∷ xs) = let ih = those-each f g xs in grind arith
-
-  pub flat-same : (f g : A → List B) (xs : List A) → All (λ x. f x ≡ g x) xs → flat f xs ≡ flat g xs
-  unfolding flat
-  flat-same f g [] a = refl
-  flat-same f g (x ∷ xs) a = let ih = flat-same f g xs (a .1) in rw (a .0, ih)
-
-  -- some of each passes a test as some does that passes the test of it
-  pub any-each : (f : B → Bool) (g : A → B) (h : A → Bool) (xs : List A) → All (λ x. f (g x) ≡ h x) xs → any f (each g xs) ≡ any h xs
-  unfolding any each
-  any-each f g h [] a = refl
-  any-each f g h (x ∷ xs) a = let ih = any-each f g h xs (a .1) in rw (a .0, ih)
-
-module _ {A B C : Type 0} where
-  pub flat-each : (f : B → List C) (g : A → B) (xs : List A) → flat f (each g xs) ≡ flat (λ x. f (g x)) xs
-  unfolding flat each
-  flat-each f g [] = refl
-  flat-each f g (x ∷ xs) = ap (λ r. f (g x) ++ r) (flat-each f g xs)
-
-  pub each-flat : (g : B → C) (f : A → List B) (xs : List A) → each g (flat f xs) ≡ flat (λ x. each g (f x)) xs
-  unfolding flat each
-  each-flat g f [] = refl
-  each-flat g f (x ∷ xs) = each-append g (f x) (flat f xs) ∙ ap (λ r. each g (f x) ++ r) (each-flat g f xs)
-
-module _ {A : Type 0} where
   pub every-same : (f g : A → Bool) (xs : List A) → All (λ x. f x ≡ g x) xs → every f xs ≡ every g xs
   unfolding every
   every-same f g [] a = refl
@@ -191,3 +156,16 @@ module _ {A : Type 0} where
   unfolding any
   any-same f g [] a = refl
   any-same f g (x ∷ xs) a = let ih = any-same f g xs (a .1) in rw (a .0, ih)
+
+  -- the pairs of a list in two parts: of each with each of the other, and of the second part
+  pub pairs-cross : (R : A → A → Type 0) (xs ys : List A) → Pairs R (xs ++ ys) → All (λ x. All (R x) ys) xs
+  pairs-cross R [] ys a = tt
+  pairs-cross R (x ∷ xs) ys a = (all-back (R x) xs ys (a .0), pairs-cross R xs ys (a .1))
+    where
+      all-back : (P : A → Type 0) (xs ys : List A) → All P (xs ++ ys) → All P ys
+      all-back P [] ys a = a
+      all-back P (x ∷ xs) ys a = all-back P xs ys (a .1)
+
+  pub pairs-back : (R : A → A → Type 0) (xs ys : List A) → Pairs R (xs ++ ys) → Pairs R ys
+  pairs-back R [] ys a = a
+  pairs-back R (x ∷ xs) ys a = pairs-back R xs ys (a .1)
