@@ -4,4 +4,4 @@ mod Tests
 mod Laying
 mod Parts
 mod May
-mod Wholes
+pub mod Wholes
