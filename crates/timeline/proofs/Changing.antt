@@ -1,23 +1,23 @@
 -- A ring through any changes that fit holds what the list is after them; events put in one by one are sorted.
-use mathlib.Core.Path.{_≡_, refl, sym, ap, _∙_}
-use mathlib.Core.Bool.{Bool, true, _&&_}
-use mathlib.Core.Logic.{_⊎_, ⊎-elim}
+use mathlib.Core.Path.{_≡_, refl, sym, ap, subst, _∙_}
+use mathlib.Core.Bool.{true}
+use mathlib.Core.Logic.{⊎-elim}
 use mathlib.Core.List.{List, [], _∷_}
-use Prim.Native.Nat.{ℕ, suc, _+_, _-_, _%_, _<_, _≤_}
+use Prim.Native.Nat.{ℕ, _+_, _-_, _%_, _<_, _≤_}
 use native.Mathlib.Nat.{zero-add}
 use native.Mathlib.Omega.{arith}
 use lib.Dec.{ltb, leb}
 use lib.ListN.{length, drop, replicate}
-use Rattle.std.proofs.shelf.Tests.{and-parts, ltb-true, leb-true}
+use Rattle.std.proofs.shelf.Tests.{and-parts, and-from, ltb-true, leb-true, lt-ltb}
 use Rattle.std.proofs.shelf.Lists.{length-drop, length-replicate}
 use Rattle.timeline.specs.declared.events.Event.{Event}
 use Rattle.timeline.specs.Lists.{each}
-use Rattle.timeline.specs.Order.{before, put, sorted, each-heard}
+use Rattle.timeline.specs.Order.{before, put, sorted}
 use Rattle.timeline.specs.Ordered.{put-last, Ordered}
 use Rattle.timeline.specs.Ring.{capacity, ring-long, slot, events, laid, with-put, with-forgotten}
-use Rattle.timeline.specs.Changes.{Change, puts, forgets, changed, Standing, empty-at, changed-ring, fit, Holds, Changes-hold, Puts-sort, Slots-say-all}
+use Rattle.timeline.specs.Changes.{Change, puts, forgets, changed, Standing, empty-at, changed-ring, fit, Holds, Changes-hold, Puts-sort, Puts-held, Slots-say-all}
 use Rattle.timeline.proofs.Lists.{All, Pairs, pairs-map}
-use Rattle.timeline.proofs.Sorting.{ins, Apart, ins-comm}
+use Rattle.timeline.proofs.Sorting.{Apart, ins-comm}
 use Rattle.timeline.proofs.Order.{before-order, put-is, heard-pairs, heard-apart}
 use Rattle.timeline.proofs.Ordering.{put-last-belongs, put-ordered, drop-ordered}
 use Rattle.timeline.proofs.Cells.{slots-all}
@@ -133,6 +133,18 @@ apart-sorted (e ∷ es) p = put-later e [] es (p .0) ∙ ap (put e) (apart-sorte
 pub puts-sort : Puts-sort
 unfolding Puts-sort
 puts-sort es h = apart-sorted es (pairs-map (λ a b. a .heard < b .heard) (Apart before) heard-apart es (heard-pairs 0 es h))
+
+fit-puts : (n : ℕ) (es : List Event) → n + length es ≤ capacity → fit n (each puts es) ≡ true
+unfolding fit each
+fit-puts n [] h = refl
+fit-puts n (e ∷ es) h =
+    and-from (ltb n capacity) (fit (n + 1) (each puts es)) (lt-ltb n capacity (omega arith)) (fit-puts (n + 1) es (omega arith))
+
+pub puts-held : Puts-held
+unfolding Puts-held Puts-sort Changes-hold
+puts-held start es h l =
+    subst (λ (t : List Event). Holds t (changed-ring (empty-at start) (each puts es))) (puts-sort es h)
+    (changes-hold start (each puts es) (fit-puts 0 es (omega arith)))
 
 pub slots-say-all : Slots-say-all
 unfolding Slots-say-all

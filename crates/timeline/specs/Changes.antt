@@ -62,6 +62,11 @@ Changes-hold = (start : ℕ) (cs : List Change) → fit 0 cs ≡ true → Holds 
 unfoldable pub Puts-sort : Type 0
 Puts-sort = (es : List Event) → each-heard 0 es ≡ true → changed [] (each puts es) ≡ sorted es
 
+-- so a ring that was empty holds them sorted
+unfoldable pub Puts-held : Type 0
+Puts-held =
+    (start : ℕ) (es : List Event) → each-heard 0 es ≡ true → length es ≤ capacity → Holds (sorted es) (changed-ring (empty-at start) (each puts es))
+
 -- the slots say all: two rings whose slots agree are equal
 unfoldable pub Slots-say-all : Type 0
 Slots-say-all =

@@ -10,6 +10,7 @@ mod tests;
 
 pub use events::Event;
 pub use laws::changes_hold;
+pub use laws::puts_held;
 pub use laws::puts_sort;
 pub use laws::slots_say_all;
 pub use places::Reply;

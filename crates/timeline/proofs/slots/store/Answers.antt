@@ -1,8 +1,7 @@
-use mathlib.Core.Path.{_≡_, ap, _∙_}
-use mathlib.Core.List.{List}
-use Prim.Native.Nat.{ℕ, _+_, _*_, _%_}
+use mathlib.Core.Path.{ap, _∙_}
+use Prim.Native.Nat.{ℕ, _+_, _*_}
 use native.Mathlib.Omega.{arith}
-use Rattle.timeline.specs.Ring.{capacity, with-event, slot}
+use Rattle.timeline.specs.Ring.{with-event, slot}
 use Rattle.timeline.proofs.Cells.{slot-same, slot-other, apart}
 use Rattle.timeline.proofs.slots.store.Needs as need
 
