@@ -1,7 +1,10 @@
 pub mod Runs
 pub mod Steps
+pub mod Back
+pub mod Words
 mod Tests
 mod Laying
 mod Parts
 mod May
 mod Wholes
+mod Each

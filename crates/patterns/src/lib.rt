@@ -2,6 +2,7 @@
 mod fields;
 mod keeping;
 mod kept;
+mod laws;
 mod layout;
 mod reading;
 mod tries;
@@ -11,3 +12,5 @@ pub use fields::Sign;
 pub use keeping::Refusal;
 pub use keeping::keep;
 pub use kept::Kept;
+pub use laws::fits_words;
+pub use laws::reads_back;

@@ -183,7 +183,7 @@ fn head_may_be(within: u64, late: u64, count: u64) -> bool
 }
 
 // The pattern of a row, in 405 words; false where it may not be.
-pub fn lay_pattern(words: &mut [u64], row: &[u64]) -> bool
+pub(crate) fn lay_pattern(words: &mut [u64], row: &[u64]) -> bool
     requires { ⌜ 405 ≤ length (now words) ⌝ }
     ensures { λ r. ⌜ Laid-all (a-pattern (pattern-in (now (row .entry)))) (sets (now (words .entry)) 0 (pattern-cells (pattern-in (now (row .entry))))) (now (words .exit)) r ⌝ }
 {
