@@ -15,7 +15,7 @@ use Rattle.patterns.specs.Patterns.{Test, Never, Step}
 use Rattle.patterns.specs.Limits.{some-tests, a-pattern}
 use Rattle.patterns.specs.Numbers.{tests-in, nevers-in, nevers-long, pattern-in}
 use Rattle.patterns.specs.Kept.{pattern-cells, kept-pattern}
-use Rattle.patterns.specs.declared.reading.Comparison.{Comparison}
+use Rattle.patterns.specs.declared.comparing.Comparison.{Comparison}
 use Rattle.patterns.specs.declared.keeping.Refusal.{Refusal}
 use Rattle.patterns.specs.declared.keeping.Refusal.the-variants.{NoPattern, NotAsLong}
 

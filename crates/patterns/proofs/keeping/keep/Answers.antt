@@ -12,4 +12,4 @@ returns c =
     let p = pattern-in (c .args .row .now) in
     let h = c .if-not-lay-pattern .ensures tt in
     let whole = c .copy-from-slice .ensures .after ∙ h .1 ∙ sets-all (replicate 405 0) (pattern-cells p) (pattern-cells-long p) in
-    (c .if-kept-ne-PATTERN .left, h .0, whole, ap kept-pattern whole ∙ reads-back p (h .0))
+    (c .if-kept-ne-PATTERN-WORDS .left, h .0, whole, ap kept-pattern whole ∙ reads-back p (h .0))
