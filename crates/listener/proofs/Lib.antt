@@ -8,3 +8,4 @@ mod Hearing
 mod Counts
 mod Counted
 mod Waiting
+mod Whole
