@@ -1,5 +1,5 @@
 mod Runs
-mod Memory
+mod Words
 mod Steps
 mod Tells
 mod Fronts

@@ -3,7 +3,7 @@ use mathlib.Core.List.{List, _∷_, _++_}
 use Prim.Native.Nat.{ℕ}
 use native.Mathlib.Omega.{arith}
 use Rattle.listener.specs.Machine.{head-words, cells-of, ring-of}
-use Rattle.listener.proofs.Memory.{stored}
+use Rattle.listener.proofs.Words.{stored}
 use Rattle.listener.proofs.head.Head.store.Needs as need
 
 pub returns : need.returns

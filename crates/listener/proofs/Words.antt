@@ -6,9 +6,10 @@ use Prim.Native.Nat.{ℕ, suc, _+_, _≤_, _<_}
 use native.Mathlib.Omega.{arith}
 use lib.Dec.{eqb, ltb, leb}
 use lib.ListN.{length, getD, take, drop}
-use Rattle.std.proofs.shelf.Lists.{drop-at, take-at, length-append, getD-append-left, take-append-drop, append-assoc, drop-drop}
+use Rattle.std.proofs.shelf.Lists.{append-nil, drop-all, take-all, length-drop, drop-at, take-at, length-append, getD-append-left, take-append-drop, append-assoc, drop-drop}
 use Rattle.std.proofs.shelf.Edits.{sets-eq}
 use lib.Seq.{sets}
+use borrow.Rule.Slice.PartMut.{putMid}
 use Rattle.std.proofs.shelf.Ways.{tells}
 use Rattle.std.specs.declared.option.Option.{Option}
 use Rattle.std.specs.declared.option.Option.the-variants.{Some, None}
@@ -94,3 +95,16 @@ pub stored :
 stored m n h long six-long =
     sets-eq (n ∷ h .count ∷ h .latest ∷ h .start ∷ h .len ∷ h .known ∷ h .upto ∷ h .stale ∷ places (h .at)) m 0 (omega arith)
     ∙ ap₂ (λ (xs r : List ℕ). (n ∷ h .count ∷ h .latest ∷ h .start ∷ h .len ∷ h .known ∷ h .upto ∷ h .stale ∷ xs) ++ r) (places-whole (h .at) six-long) (behind-head m)
+
+-- the ring lent, and given back
+pub ring-lent : (m : List ℕ) → length m ≡ memory-long → take ring-long (drop 419 m) ≡ ring-of m
+ring-lent m l = take-all ring-long (drop 419 m) (omega (arith, length-drop 419 m))
+
+given-back : (a k : ℕ) (m r : List ℕ) → length m ≡ a + k → putMid a k m r ≡ take a m ++ r
+given-back a k m r l = ap (λ (x : List ℕ). take a m ++ (r ++ x)) (drop-all k (drop a m) (omega (arith, length-drop a m))) ∙ ap (λ (x : List ℕ). take a m ++ x) (append-nil r)
+
+pub ring-given : (m r : List ℕ) → length m ≡ memory-long → putMid 419 ring-long m r ≡ take 419 m ++ r
+ring-given m r l = given-back 419 ring-long m r l
+
+pub lent-length : (m : List ℕ) → length m ≡ memory-long → length (take ring-long (drop 419 m)) ≡ ring-long
+lent-length m l = ap length (ring-lent m l) ∙ length-drop 419 m ∙ omega arith
