@@ -8,3 +8,7 @@ mod Hearing
 mod Counts
 mod Counted
 mod Waiting
+mod Small
+mod Cursors
+mod Written
+mod Steadily
