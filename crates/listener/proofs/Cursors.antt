@@ -65,9 +65,9 @@ module _ (h : List Event) (p : Pattern) (upto : ℕ) (c : Cursor) (f : Found) (f
   place-small path long is w u a i =
       let deepest : f .next .depth ≡ length (p .steps) - 1 = ap (λ (x : Cursor). x .depth) is in
       elim (cases-order i (f .next .depth)) [
-        inl e ↦ (let l = w .here in rw e (omega arith))
-      | inr (inl l) ↦ omega (arith, w .before i l)
-      | inr (inr l) ↦ (let e = place-behind path long (omega (arith, w .some)) is i (omega (arith, w .some)) in rw e (small-at (c .at) i a))
+        | inl e ↦ (let l = w .here in rw e (omega arith))
+        | inr (inl l) ↦ omega (arith, w .before i l)
+        | inr (inr l) ↦ (let e = place-behind path long (omega (arith, w .some)) is i (omega (arith, w .some)) in rw e (small-at (c .at) i a))
       ]
 
   pub places-small : Small upto → Smalls (c .at) → Smalls (f .next .at)

@@ -10,5 +10,6 @@ mod Counted
 mod Waiting
 mod Small
 mod Cursors
+mod SmallHeads
 mod Written
 mod Steadily

@@ -79,8 +79,8 @@ put-small e (f ∷ fs) s a =
     let h = and-parts (each-number small f) (every (each-number small) fs) a in
     let ih = put-small e fs s (h .1) in
     elim (cases-bool (every (before e) (f ∷ fs))) [
-      inl b ↦ rw b (rw s a)
-    | inr b ↦ rw b (and-from (each-number small f) (every (each-number small) (put-last e fs)) (h .0) ih)
+      | inl b ↦ rw b (rw s a)
+      | inr b ↦ rw b (and-from (each-number small f) (every (each-number small) (put-last e fs)) (h .0) ih)
     ]
 
 nothings-small : (n : ℕ) → Small-events (replicate n nothing)

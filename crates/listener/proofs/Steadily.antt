@@ -2,7 +2,7 @@
 use mathlib.Core.Path.{_≡_, refl, sym, ap, _∙_}
 use mathlib.Core.Bool.{Bool, true, false, _&&_}
 use mathlib.Core.List.{List}
-use Prim.Native.Nat.{ℕ, zero, suc, _-_}
+use Prim.Native.Nat.{ℕ, zero, suc}
 use native.Mathlib.Omega.{arith}
 use lib.Dec.{eqb}
 use lib.ListN.{length, getD, drop, replicate}
@@ -25,7 +25,8 @@ use Rattle.listener.specs.Engine.{Told-it, begins, comes, ends, next, refused,
 use Rattle.listener.specs.Promise.{Steady}
 use Rattle.listener.specs.Machine.{memory-long, phase-number, head-of, cells-of, ring-of, a-head, head-at, stepped, with-some, cursor-of, blank, begun, event-of, came, ending-head, ended, resumed, gone-on, machine, own}
 use Rattle.listener.proofs.Small.{Small, Smalls, test-smalls, smalls-test, small-event, Small-head, head-small}
-use Rattle.listener.proofs.Written.{Parts, Written, written, tell-written, blank-small, ending-small, bounds, begin-small, heard-written}
+use Rattle.listener.proofs.SmallHeads.{blank-small, ending-small, bounds, begin-small}
+use Rattle.listener.proofs.Written.{Parts, Written, written, tell-written, heard-written}
 
 -- a memory is as long as another, and small if that is
 abbrev Stays : List ℕ → List ℕ → Type 0
@@ -152,7 +153,8 @@ start-is = refl
 
 pub steady-proof : Steady own
 unfolding Steady all-small
-steady-proof =
-    (omega (arith, ap length start-is, length-replicate {A = ℕ} memory-long 0),
-    ap (every (λ x. eqb x 0)) start-is ∙ zeros memory-long,
-    λ m ev. (own-stays m ev .0, λ a. smalls-test (own .step m ev .memory) (own-stays m ev .1 (test-smalls m a))))
+steady-proof = (
+  omega (arith, ap length start-is, length-replicate {A = ℕ} memory-long 0),
+  ap (every (λ x. eqb x 0)) start-is ∙ zeros memory-long,
+  λ m ev. (own-stays m ev .0, λ a. smalls-test (own .step m ev .memory) (own-stays m ev .1 (test-smalls m a))),
+)

@@ -1,21 +1,17 @@
 -- What the listener writes as it tells rows and as an event comes: a memory as long as it has to be, and of small numbers if it was.
-use mathlib.Core.Path.{_≡_, refl, ap, _∙_}
+use mathlib.Core.Path.{_≡_, refl, _∙_}
 use mathlib.Core.Bool.{Bool, true, false}
 use mathlib.Core.List.{List}
-use Prim.Native.Nat.{ℕ, suc, _+_, _-_, _≤_, _<_}
-use native.Mathlib.Omega.{arith}
+use Prim.Native.Nat.{ℕ, suc, _+_, _-_, _≤_}
 use lib.Dec.{ltb}
-use lib.ListN.{length, drop, replicate}
-use Rattle.std.proofs.shelf.Counted.{length-map-counting}
-use Rattle.std.proofs.shelf.Lists.{length-drop}
-use Rattle.std.proofs.shelf.Ways.{tells as by-tests}
+use lib.ListN.{length, replicate}
 use Rattle.std.specs.declared.option.Option.{Option}
 use Rattle.std.specs.declared.option.Option.the-variants.{Some, None}
 use Rattle.timeline.specs.declared.events.Event.{Event}
 use Rattle.timeline.specs.Lists.{pick}
 use Rattle.timeline.specs.Order.{nothing}
 use Rattle.timeline.specs.Ordered.{put-last}
-use Rattle.timeline.specs.Ring.{ring-long, slot, events, with-forgotten}
+use Rattle.timeline.specs.Ring.{ring-long, events, with-forgotten}
 use Rattle.timeline.proofs.Laid.{laid-long}
 use Rattle.patterns.specs.Patterns.{Pattern, named}
 use Rattle.patterns.specs.Kept.{kept-pattern}
@@ -27,11 +23,10 @@ use Rattle.listener.specs.declared.head.Phase.{Phase}
 use Rattle.listener.specs.declared.head.Phase.the-variants.{Waiting, Telling, Over}
 use Rattle.listener.specs.declared.head.Head.{Head}
 use Rattle.listener.specs.declared.head.Turn.the-variants.{Late, Full, Counts}
-use Rattle.listener.specs.Engine.{next}
-use Rattle.listener.specs.Machine.{memory-long, memory-of, room, a-head, phase-after, settled-head, settled, with-places, told-or-settled, tell-from, blank, latest-with, stale-with, counting, hear, ring-with, len-with, telling-head, counted-head, turned, heard, ending-head}
+use Rattle.listener.specs.Machine.{memory-long, memory-of, room, phase-after, settled-head, with-places, told-or-settled, tell-from, stale-with, counting, hear, ring-with, telling-head, counted-head, turned, heard}
 use Rattle.listener.proofs.Memory.{memory-length}
-use Rattle.listener.proofs.Fronts.{below-run-most}
-use Rattle.listener.proofs.Small.{Small, Smalls, Small-event, put-in-small, forgotten-small, no-places-small, Small-head, memory-small}
+use Rattle.listener.proofs.Small.{Small, Smalls, Small-event, put-in-small, forgotten-small, Small-head, memory-small}
+use Rattle.listener.proofs.SmallHeads.{settled-small, places-put, Bounded, counted-small, counting-small, telling-small, begin-small}
 use Rattle.listener.proofs.Cursors.{places-small}
 
 -- THE PARTS OF A MEMORY THAT IS WRITTEN
@@ -56,23 +51,6 @@ module _ {small : Type 0} (ph : Phase) (h : Head) (cells ring : List ℕ) (s : P
         long = memory-length ph h cells ring (s .wide) (s .long);
         smalls = λ a. memory-small ph h cells ring (s .state a) (s .words a) (s .slots a);
       }
-
-settled-small : (h : Head) → Small-head h → Small-head (settled-head h)
-settled-small h s =
-    record {
-      count = s .count;
-      latest = s .latest;
-      start = omega arith;
-      len = omega arith;
-      known = omega arith;
-      upto = omega arith;
-      stale = omega arith;
-      at = no-places-small;
-    }
-
-places-put : (h : Head) (at : List ℕ) → Small-head h → Smalls at → Small-head (with-places h at)
-places-put h at s a =
-    record { count = s .count; latest = s .latest; start = s .start; len = s .len; known = s .known; upto = s .upto; stale = s .stale; at = a }
 
 -- a row told, or all settled
 module _ {small : Type 0} (ph : Phase) (h : Head) (cells ring : List ℕ) (s : Parts small h cells ring) (c : Cursor) (at : small → Smalls (c .at)) where
@@ -104,78 +82,7 @@ module _ {small : Type 0} (ph : Phase) (h : Head) (cells ring : List ℕ) (s : P
   unfolding tell-from
   tell-written = told-written (next-found (events ring (h .start) (h .len)) (kept-pattern cells) (h .upto) c) refl
 
-pub blank-small : Small-head blank
-blank-small =
-    record {
-      count = omega arith;
-      latest = omega arith;
-      start = omega arith;
-      len = omega arith;
-      known = omega arith;
-      upto = omega arith;
-      stale = omega arith;
-      at = no-places-small;
-    }
-
-pub ending-small : (h : Head) → Small-head h → Small-head (ending-head h)
-ending-small h s =
-    record { count = s .count; latest = s .latest; start = s .start; len = s .len; known = s .known; upto = s .len; stale = s .len; at = s .at }
-
 -- AN EVENT
-
--- the bounds of a state that the listener can have written
-pub record Bounded (h : Head) : Type 0 where
-  pub count : h .count < 4611686018427387904
-  pub len : h .len ≤ suc room
-  pub known : h .known ≤ h .len
-
-pub bounds : (h : Head) → a-head h ≡ true → Bounded h
-bounds h e = record { count = grind (arith, by-tests); len = grind (arith, by-tests); known = grind (arith, by-tests) }
-
-counted-small : (h : Head) → Bounded h → Small-head h → Small-head (counted-head h)
-counted-small h k s =
-    record { count = omega arith; latest = s .latest; start = s .start; len = s .len; known = s .known; upto = s .upto; stale = s .stale; at = s .at }
-
-counting-small :
-    (p : Pattern) (h : Head) (ring : List ℕ) (e : Event) → Bounded h → Small (e .time) → Small-head h
-    → Small-head (counting p h (events ring (h .start) (h .len)) e)
-counting-small p h ring e k t s =
-    let es : List Event = events ring (h .start) (h .len) in
-    let few : length es ≡ h .len = length-map-counting (slot ring) (h .start) (h .len) in
-    record {
-      count = omega arith;
-      latest = grind arith;
-      start = s .start;
-      len = s .len;
-      known = s .known;
-      upto = s .upto;
-      stale = omega (arith, below-run-most (latest-with h e - p .late - p .within) es);
-      at = s .at;
-    }
-
-len-with-most : (h : Head) (b : Bool) → len-with h b ≤ h .len + 1
-len-with-most h true = omega arith
-len-with-most h false = omega arith
-
-telling-small :
-    (p : Pattern) (h : Head) (b : Bool) (ring : List ℕ) → h .len ≤ suc room → h .known ≤ h .len → Small-head h → Small-head (telling-head p h b ring)
-telling-small p h b ring l k s =
-    let n : ℕ = len-with h b in
-    let es : List Event = drop (h .known) (events ring (h .start) n) in
-    let few : length es ≡ n - h .known = length-drop (h .known) (events ring (h .start) n) ∙ ap (λ (j : ℕ). j - h .known) (length-map-counting (slot ring) (h .start) n) in
-    record {
-      count = s .count;
-      latest = s .latest;
-      start = s .start;
-      len = omega (arith, len-with-most h b);
-      known = s .known;
-      upto = omega (arith, len-with-most h b, below-run-most (h .latest - p .late + 1) es);
-      stale = s .stale;
-      at = s .at;
-    }
-
-pub begin-small : (n : ℕ) → Small n → Smalls (begin-at n .at)
-begin-small n l = (l, no-places-small .1)
 
 module _ {small : Type 0} (h : Head) (cells ring : List ℕ) (e : Event) (k : Bounded h) (s : Parts small h cells ring)
     (event : Small-event e) (time : Small (e .time)) where
