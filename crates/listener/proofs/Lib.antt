@@ -9,3 +9,8 @@ mod Counts
 mod Counted
 mod Waiting
 mod Whole
+mod Small
+mod Cursors
+mod SmallHeads
+mod Written
+mod Steadily

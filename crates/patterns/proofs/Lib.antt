@@ -7,4 +7,5 @@ mod Laying
 mod Parts
 mod May
 pub mod Wholes
+mod Wholes
 mod Each

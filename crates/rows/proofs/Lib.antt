@@ -11,7 +11,7 @@ mod Picks
 mod Steps
 mod Moves
 mod Following
-mod Chosen
+pub mod Chosen
 mod OneLast
 mod ByLast
 pub mod AllFound
