@@ -8,9 +8,9 @@ mod Hearing
 mod Counts
 mod Counted
 mod Waiting
-mod Whole
 mod Small
 mod Cursors
 mod SmallHeads
 mod Written
 mod Steadily
+mod Whole

@@ -28,6 +28,7 @@ use Rattle.listener.proofs.Runs.{Telling, tell-all, right, most}
 use Rattle.listener.proofs.Steps.{own-is}
 use Rattle.listener.proofs.Tells.{Kept-as}
 use Rattle.listener.proofs.Waiting.{Waits, good}
+use Rattle.listener.proofs.Steadily.{steady-proof}
 
 pub kept-as : (p : Pattern) → a-pattern p ≡ true → Kept-as (pattern-cells p) p
 kept-as p ok =
@@ -86,9 +87,9 @@ listens p fs ok es l =
     let t = tell-all own (λ m. Waits p m 0 []) waits tt [] (own .start) (begins p) [] (first-waits p ok) in
     (1, t .0, t .1, right own p (Waits p) (good p (kept-as p ok)) fs (runs 1 own (own .start) (begins p) [] .memory) 0 [] es (omega arith) (t .2))
 
-pub whole : Steady own → Whole own
+pub whole-proof : Whole own
 unfolding Whole
-whole steady = (
+whole-proof = (
   steady,
   listens,
   λ p bad. let t = tell-all own (λ m. Unit) (refused 1) tt [] (own .start) (begins p) [] (refuses p bad) in (1, t .0, t .1),

@@ -2,5 +2,7 @@
 mod acts;
 mod head;
 mod memory;
+mod promise;
 
 pub use acts::Told;
+pub use promise::keeps_its_promise;

@@ -6,6 +6,5 @@ mod Tests
 mod Laying
 mod Parts
 mod May
-pub mod Wholes
 mod Wholes
 mod Each
