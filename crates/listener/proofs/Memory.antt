@@ -6,7 +6,9 @@ use Prim.Native.Nat.{ℕ, suc, _+_, _≤_, _<_}
 use native.Mathlib.Omega.{arith}
 use lib.Dec.{eqb, ltb, leb}
 use lib.ListN.{length, getD, take, drop}
-use Rattle.std.proofs.shelf.Lists.{drop-at, take-at, length-append, getD-append-left, take-append-drop, append-assoc}
+use Rattle.std.proofs.shelf.Lists.{drop-at, take-at, length-append, getD-append-left, take-append-drop, append-assoc, drop-drop}
+use Rattle.std.proofs.shelf.Edits.{sets-eq}
+use lib.Seq.{sets}
 use Rattle.std.proofs.shelf.Ways.{tells}
 use Rattle.std.specs.declared.option.Option.{Option}
 use Rattle.std.specs.declared.option.Option.the-variants.{Some, None}
@@ -26,7 +28,7 @@ six-length (a ∷ b ∷ c ∷ d ∷ []) = refl
 six-length (a ∷ b ∷ c ∷ d ∷ e ∷ []) = refl
 six-length (a ∷ b ∷ c ∷ d ∷ e ∷ f ∷ xs) = refl
 
-abbrev places : List ℕ → List ℕ
+abbrev pub places : List ℕ → List ℕ
 places xs = getD xs 0 0 ∷ getD xs 1 0 ∷ getD xs 2 0 ∷ getD xs 3 0 ∷ getD xs 4 0 ∷ getD xs 5 0 ∷ []
 
 six-places : (xs ys : List ℕ) → places (six xs ++ ys) ≡ six xs
@@ -72,3 +74,23 @@ module _ (ph : Phase) (h : Head) (cells ring : List ℕ) where
       let m : List ℕ = memory-of ph h cells ring in
       let same : eqb (phase-number ph) (phase-number ph) ≡ true = grind (arith, tells) in
       ap (λ (g : Head). pick (eqb (phase-number ph) (phase-number ph) && a-head g) (Some g) None) (head-back e) ∙ rw (same, ok)
+
+places-whole : (xs : List ℕ) → length xs ≡ 6 → places xs ≡ six xs
+places-whole [] e = absurd (omega arith)
+places-whole (a ∷ []) e = absurd (omega arith)
+places-whole (a ∷ b ∷ []) e = absurd (omega arith)
+places-whole (a ∷ b ∷ c ∷ []) e = absurd (omega arith)
+places-whole (a ∷ b ∷ c ∷ d ∷ []) e = absurd (omega arith)
+places-whole (a ∷ b ∷ c ∷ d ∷ e₁ ∷ []) e = absurd (omega arith)
+places-whole (a ∷ b ∷ c ∷ d ∷ e₁ ∷ f ∷ xs) e = refl
+
+pub behind-head : (m : List ℕ) → drop 14 m ≡ cells-of m ++ ring-of m
+behind-head m = sym (ap (λ (r : List ℕ). take 405 (drop 14 m) ++ r) (sym (drop-drop 405 14 m)) ∙ take-append-drop 405 (drop 14 m))
+
+-- the state written word by word
+pub stored :
+    (m : List ℕ) (n : ℕ) (h : Head) → length m ≡ memory-long → length (h .at) ≡ 6
+    → sets m 0 (n ∷ h .count ∷ h .latest ∷ h .start ∷ h .len ∷ h .known ∷ h .upto ∷ h .stale ∷ places (h .at)) ≡ (n ∷ head-words h) ++ (cells-of m ++ ring-of m)
+stored m n h long six-long =
+    sets-eq (n ∷ h .count ∷ h .latest ∷ h .start ∷ h .len ∷ h .known ∷ h .upto ∷ h .stale ∷ places (h .at)) m 0 (omega arith)
+    ∙ ap₂ (λ (xs r : List ℕ). (n ∷ h .count ∷ h .latest ∷ h .start ∷ h .len ∷ h .known ∷ h .upto ∷ h .stale ∷ xs) ++ r) (places-whole (h .at) six-long) (behind-head m)
