@@ -2,7 +2,7 @@ pub mod Order
 pub mod Rows
 mod Reach
 mod Same
-mod Held
+mod Enough
 mod Known
 pub mod Newly
 mod Positions
@@ -17,7 +17,7 @@ mod ByLast
 pub mod AllFound
 mod Among
 mod Along
-mod Fitting
+mod AllFit
 pub mod Resuming
 mod Renumbered
 mod Sorted
