@@ -14,3 +14,4 @@ mod SmallHeads
 mod Written
 mod Steadily
 mod Whole
+mod Doing

@@ -3,6 +3,7 @@ mod acts;
 mod head;
 mod memory;
 mod promise;
+mod turns;
 
 pub use acts::Told;
 pub use promise::keeps_its_promise;

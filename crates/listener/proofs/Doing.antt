@@ -1,0 +1,65 @@
+-- What the code does is what the machine does, case by case, over plain variables.
+use mathlib.Core.Path.{_≡_, refl, sym, ap, ap₂, subst, _∙_}
+use mathlib.Core.Bool.{Bool, true, false}
+use mathlib.Core.List.{List, [], _∷_, _++_}
+use Prim.Native.Nat.{ℕ, suc, _+_, _-_, _%_, _<_, _≤_}
+use native.Mathlib.Omega.{arith}
+use borrow.Author.Tests.{lt-ltb, le-ltb}
+use lib.Dec.{ltb}
+use lib.ListN.{length, take}
+use Rattle.timeline.specs.declared.events.Event.{Event}
+use Rattle.timeline.specs.Lists.{pick}
+use Rattle.timeline.specs.Ring.{capacity, with-forgotten}
+use Rattle.patterns.specs.Patterns.{Pattern, named}
+use Rattle.listener.specs.declared.head.Phase.{Phase}
+use Rattle.listener.specs.declared.head.Phase.the-variants.{New, Waiting, Telling, Ending, Over as Done}
+use Rattle.listener.specs.declared.head.Head.{Head}
+use Rattle.listener.specs.declared.head.Turn.{Turn}
+use Rattle.listener.specs.declared.head.Turn.the-variants.{Late, Full, Counts}
+use Rattle.listener.specs.declared.acts.Told.{Told}
+use Rattle.listener.specs.Engine.{Act, waits, Stepped}
+use Rattle.listener.specs.Machine.{memory-long, no-places, memory-of, cells-of, ring-of, room, latest-with, stale-with, counting, hear, settled-head, phase-after, act-after}
+use Rattle.listener.specs.Entry.{Act-told, Did}
+use Rattle.listener.proofs.Words.{cells-stay, ring-there}
+
+pub did : (st : Stepped) (a : Act) (t : Told) (m₁ out out₁ : List ℕ) → m₁ ≡ st .memory → st .act ≡ a → Act-told a t out out₁ → Did st t m₁ out out₁
+did st a t m₁ out out₁ e q h = record { memory = e; told = subst (λ (x : Act). Act-told x t out out₁) (sym q) h }
+
+-- HEARING
+module _ (p : Pattern) (h : Head) (es : List Event) (e : Event) where
+  pub hears-late : e .time < h .latest - p .late → Late ≡ hear p h es e
+  unfolding hear
+  hears-late l = sym (rw (lt-ltb (e .time) (h .latest - p .late) l))
+
+  pub hears-full : h .latest - p .late ≤ e .time → room < h .len - stale-with p h es e + pick (named p e) 1 0 → Full ≡ hear p h es e
+  unfolding hear
+  hears-full l k = sym (rw (le-ltb (e .time) (h .latest - p .late) l) (rw (lt-ltb room (h .len - stale-with p h es e + pick (named p e) 1 0) k)))
+
+  pub hears-counts :
+      h .latest - p .late ≤ e .time → h .len - stale-with p h es e + pick (named p e) 1 0 ≤ room → Counts (counting p h es e) (named p e) ≡ hear p h es e
+  unfolding hear
+  hears-counts l k = sym (rw (le-ltb (e .time) (h .latest - p .late) l) (rw (le-ltb room (h .len - stale-with p h es e + pick (named p e) 1 0) k)))
+
+-- SETTLING
+pub rest-waits : (ph : Phase) → (ph ≡ Ending → ⊥) → (phase-after ph ≡ Waiting) × (act-after ph ≡ waits)
+rest-waits New n = (refl, refl)
+rest-waits Waiting n = (refl, refl)
+rest-waits Telling n = (refl, refl)
+rest-waits Ending n = absurd (n refl)
+rest-waits Done n = (refl, refl)
+
+abbrev pub settled-to : Head → ℕ → ℕ → ℕ → Head
+settled-to h start len known =
+    record { count = h .count; latest = h .latest; start = start; len = len; known = known; upto = 0; stale = 0; at = no-places }
+
+pub settles :
+    (m m₁ : List ℕ) (h : Head) (ph : Phase) (start len known : ℕ) → length m ≡ memory-long
+    → m₁ ≡ take 419 m ++ with-forgotten (ring-of m) (h .start) (h .stale)
+    → (start ≡ (h .start + h .stale) % capacity) × (len ≡ h .len - h .stale) → known ≡ h .upto - h .stale
+    → memory-of ph (settled-to h start len known) (cells-of m₁) (ring-of m₁)
+    ≡ memory-of ph (settled-head h) (cells-of m) (with-forgotten (ring-of m) (h .start) (h .stale))
+settles m m₁ h ph start len known long e (a, b) k =
+    let r : List ℕ = with-forgotten (ring-of m) (h .start) (h .stale) in
+    ap₂ (λ (x y : List ℕ). memory-of ph (settled-to h start len known) x y) (ap cells-of e ∙ cells-stay m r long) (ap ring-of e ∙ ring-there m r long)
+    ∙ ap₂ (λ (x y : ℕ). memory-of ph (settled-to h x y known) (cells-of m) r) a b
+    ∙ ap (λ (x : ℕ). memory-of ph (settled-to h ((h .start + h .stale) % capacity) (h .len - h .stale) x) (cells-of m) r) k

@@ -1,0 +1,94 @@
+// What the listener does: it hears an event, tells rows, and settles.
+ghost use mathlib.Core.Path.{_≡_};
+ghost use Prim.Native.Nat.{_+_, _-_, _<_, _≤_};
+ghost use lib.ListN.{length};
+ghost use Rattle.timeline.specs.Lists.{pick};
+ghost use Rattle.timeline.specs.Ring.{capacity, events as events-of};
+ghost use Rattle.patterns.specs.Kept.{kept-pattern};
+ghost use Rattle.listener.specs.Machine.{memory-long, cells-of, ring-of, Bounded, latest-with, settled, hear as hear-of};
+ghost use Rattle.listener.specs.Entry.{Did};
+use crate::acts::Told;
+use crate::head::Head;
+use crate::head::Phase;
+use crate::head::ROOM;
+use crate::head::Turn;
+use crate::memory::forget_stale;
+use crate::memory::pattern_in;
+use crate::memory::run_below;
+use timeline::Event;
+
+// The greatest time once an event has counted.
+fn latest_with(head: Head, e: Event) -> u64
+    ensures { λ r. ⌜ r ≡ latest-with head e ⌝ }
+{
+    if head.latest < e.time {
+        e.time
+    } else {
+        head.latest
+    }
+}
+
+// How many events have to be held when the stale ones are forgotten, with one that is named by the pattern.
+fn stays(len: usize, stale: usize, named: bool) -> usize
+    requires { ⌜ stale ≤ len ⌝ ∗ ⌜ len ≤ capacity ⌝ }
+    ensures { λ r. ⌜ r ≡ len - stale + pick named 1 0 ⌝ }
+{
+    let len = len - stale;
+    if named { len + 1 } else { len }
+}
+
+// What an event brings about: it is too late, there is no room, or it counts. It looks at the stale events alone, and changes nothing.
+fn hear(memory: &[u64], head: Head, e: Event) -> Turn
+    requires { ⌜ length (now memory) ≡ memory-long ⌝ ∗ ⌜ Bounded head ⌝ }
+    ensures { λ r. ⌜ r ≡ hear-of (kept-pattern (cells-of (now (memory .entry)))) head (events-of (ring-of (now (memory .entry))) (head .start) (head .len)) e ⌝ }
+{
+    let pattern = pattern_in(memory);
+    let late = pattern.late();
+    if e.time < head.latest.saturating_sub(late) {
+        return Turn::Late;
+    }
+    let latest = latest_with(head, e);
+    let oldest = latest.saturating_sub(late).saturating_sub(pattern.within());
+    let stale = run_below(memory, head, 0, oldest);
+    let named = pattern.is_named(e.kind);
+    if stays(head.len, stale, named) > ROOM {
+        return Turn::Full;
+    }
+    let count = head.count + 1;
+    Turn::Counts(
+        Head {
+            count,
+            latest,
+            stale,
+            ..head
+        },
+        named,
+    )
+}
+
+// All rows are told: what is stale is forgotten, and the listener waits, or is over.
+fn settle(memory: &mut [u64], phase: Phase, head: Head, out: &mut [u64]) -> Told
+    requires { ⌜ length (now memory) ≡ memory-long ⌝ ∗ ⌜ head .start < capacity ⌝ ∗ ⌜ head .len ≤ capacity ⌝ ∗ ⌜ head .stale ≤ head .len ⌝ }
+    ensures { λ r. ⌜ Did (settled phase head (cells-of (now (memory .entry))) (ring-of (now (memory .entry)))) r (now (memory .exit)) (now (out .entry)) (now (out .exit)) ⌝ }
+{
+    let span = forget_stale(memory, head);
+    let head = Head {
+        start: span.start,
+        len: span.len,
+        known: head.upto.saturating_sub(head.stale),
+        upto: 0,
+        stale: 0,
+        at: [0; 6],
+        ..head
+    };
+    match phase {
+        Phase::Ending => {
+            head.store(memory, Phase::Over);
+            Told::Over
+        }
+        _ => {
+            head.store(memory, Phase::Waiting);
+            Told::Waits
+        }
+    }
+}
