@@ -4,9 +4,13 @@ mod Positions
 mod Rising
 mod Picks
 mod Steps
+mod Decoded
+mod Nevers
+mod Fitting
 mod Moves
 mod Following
 mod Chosen
+mod LevelOk
 mod OneLast
 mod ByLast
 pub mod AllFound
