@@ -10,6 +10,8 @@ mod Fitting
 mod Moves
 mod Following
 mod Chosen
+mod Arrays
+mod Pruning
 mod LevelOk
 mod OneLast
 mod ByLast

@@ -37,6 +37,10 @@ step-of [] n = no-step
 step-of (s ∷ ss) zero = s
 step-of (s ∷ ss) (suc n) = step-of ss n
 
+-- which step a depth chooses for, of k steps
+abbrev pub level-step : ℕ → ℕ → ℕ
+level-step k d = pick (eqb d 0) (k - 1) (d - 1)
+
 -- which position may be chosen at a level: the last event's by its kind alone while others have to be chosen before it can be tried whole
 unfoldable pub row-ok : List Event → ℕ → List Step → List ℕ → ℕ → Bool
 row-ok h w ss [] c = pick (eqb (length ss) 1) (fits h w (step-of ss 0) [] c) (eqb (nth h c .kind) (step-of ss (length ss - 1) .kind))
