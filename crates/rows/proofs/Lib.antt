@@ -11,7 +11,10 @@ mod Moves
 mod Following
 mod Chosen
 mod Arrays
+mod Numbers
 mod Pruning
+mod Searching
+mod FirstRow
 mod LevelOk
 mod OneLast
 mod ByLast

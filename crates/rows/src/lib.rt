@@ -6,6 +6,7 @@ mod searched;
 
 pub use search::Cursor;
 pub use search::Found;
+pub use search::next_row;
 pub use searched::goes_on;
 pub use searched::is_over;
 pub use searched::rest_is;
