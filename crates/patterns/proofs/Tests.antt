@@ -35,7 +35,7 @@ nth-past [] i l = refl
 nth-past (e ∷ es) zero l = absurd (omega arith)
 nth-past (e ∷ es) (suc i) l = nth-past es i (omega arith)
 
-take-one : (f s : ℕ) → (f ≡ 0 → ⊥) → take f (s ∷ []) ≡ s ∷ []
+pub take-one : (f s : ℕ) → (f ≡ 0 → ⊥) → take f (s ∷ []) ≡ s ∷ []
 take-one zero s h = absurd (h refl)
 take-one (suc zero) s h = refl
 take-one (suc (suc n)) s h = refl

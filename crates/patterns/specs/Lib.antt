@@ -4,3 +4,5 @@ pub mod Numbers
 pub mod Kept
 pub mod Codes
 pub mod Named
+pub mod Reading
+pub mod Laws

@@ -1,5 +1,10 @@
 pub mod Order
 pub mod Rows
+mod Reach
+mod Same
+mod Enough
+mod Known
+pub mod Newly
 mod Positions
 mod Rising
 mod Picks
@@ -16,7 +21,14 @@ mod Pruning
 mod Searching
 mod FirstRow
 mod LevelOk
+pub mod Chosen
 mod OneLast
 mod ByLast
 pub mod AllFound
+mod Among
+mod Along
+mod AllFit
 pub mod Resuming
+mod Renumbered
+mod Sorted
+mod Exchanged

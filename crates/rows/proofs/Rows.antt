@@ -1,19 +1,20 @@
 -- Rows: that they begin as they should, that they are apart, and that they are told once.
-use mathlib.Core.Path.{_≡_, refl, sym, _∙_}
-use mathlib.Core.Bool.{Bool, true, false}
+use mathlib.Core.Path.{_≡_, sym, subst, _∙_}
+use mathlib.Core.Bool.{true}
 use mathlib.Core.List.{List, [], _∷_, _++_, append-assoc, append-nil}
-use mathlib.Core.Logic.{_⊎_, inl, inr}
-use Prim.Native.Nat.{ℕ, _≤_}
-use lib.ListN.{length}
+use mathlib.Core.Logic.{inl, inr}
+use Prim.Native.Nat.{ℕ}
+use lib.ListN.{getD}
 use Rattle.timeline.specs.declared.events.Event.{Event}
-use Rattle.timeline.specs.Lists.{those, flat}
+use Rattle.timeline.specs.Lists.{those}
 use Rattle.timeline.specs.Order.{before, sorted, each-heard}
-use Rattle.timeline.proofs.Lists.{All, Pairs, all-map, all-flat, all-any, pairs-those, pairs-flat}
-use Rattle.timeline.proofs.Sorting.{Apart, isort, strict-isort}
+use Rattle.timeline.proofs.Lists.{clash, All, Pairs, all-map, all-flat, all-any, pairs-those, pairs-flat, pairs-at}
+use Rattle.timeline.proofs.Sorting.{Apart, Strict, strict-isort}
 use Rattle.timeline.proofs.Order.{sorted-apart}
 use Rattle.patterns.specs.Patterns.{Step, Pattern}
-use Rattle.rows.specs.Rows.{row-before, told-before, goes-on, rows}
-use Rattle.rows.specs.Laws.{rising, Told-once}
+use Rattle.rows.specs.Rows.{row-before, told-before, goes-on, rows, all-rows}
+use Rattle.rows.specs.Laws.{Told-once}
+use Rattle.rows.specs.Fitting.{No-row-twice}
 use Rattle.rows.proofs.Order.{told-order, in-order-is, told-apart, row-front, rising-from}
 
 abbrev pub Begins : List Event → List Event → Type 0
@@ -50,8 +51,20 @@ rows-apart all w p (s ∷ ss) es =
     (rows all w ss (es ++ x ∷ [])) (rows-begin all w ss (es ++ x ∷ [])))
     (those (goes-on all w es s) all) (pairs-those (Apart before) (goes-on all w es s) all p)
 
+-- the rows of a pattern stand in strict order
+pub rows-strict : (p : Pattern) (es : List Event) → each-heard 0 es ≡ true → Strict told-before (all-rows p es)
+rows-strict p es h =
+    rw in-order-is (strict-isort told-before told-order (rows (sorted es) (p .within) (p .steps) [])
+    (rows-apart (sorted es) (p .within) (sorted-apart es h) (p .steps) []))
+
 pub told-once-proof : Told-once
 unfolding Told-once
-told-once-proof p es h l =
-    rw in-order-is (rising-from (isort told-before (rows (sorted es) (p .within) (p .steps) []))
-    (strict-isort told-before told-order (rows (sorted es) (p .within) (p .steps) []) (rows-apart (sorted es) (p .within) (sorted-apart es h) (p .steps) [])))
+told-once-proof p es h l = rising-from (all-rows p es) (rows-strict p es h)
+
+pub no-row-twice : No-row-twice
+unfolding No-row-twice
+no-row-twice p es h i j l k e =
+    let rs = all-rows p es in
+    let b = pairs-at (λ r s. told-before r s ≡ true) rs [] (rows-strict p es h) i j l k in
+    let c : told-before (getD rs j []) (getD rs j []) ≡ true = subst (λ r. told-before r (getD rs j []) ≡ true) e b in
+    clash c (told-order .asym (getD rs j []) (getD rs j []) c)

@@ -2,6 +2,9 @@ pub mod Rows
 pub mod Known
 pub mod Laws
 pub mod Held
+pub mod Newly
 pub mod Search
 pub mod Finding
 pub mod SearchLaws
+pub mod Fitting
+pub mod Sorted

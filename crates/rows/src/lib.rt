@@ -1,9 +1,26 @@
 // Rows of events that fit a pattern: what they are, and how they are found.
 mod held;
 mod levels;
+mod laws;
 mod search;
 mod searched;
 
+pub use laws::all_that_fit;
+pub use laws::ends_held;
+pub use laws::grows;
+pub use laws::held_enough;
+pub use laws::held_later;
+pub use laws::known_stays;
+pub use laws::neighbours;
+pub use laws::never_stale;
+pub use laws::newly_held;
+pub use laws::no_row_twice;
+pub use laws::renumbered_rows;
+pub use laws::sorted_any_way;
+pub use laws::sorted_keeps;
+pub use laws::sorted_right;
+pub use laws::sorted_rises;
+pub use laws::told_once;
 pub use search::Cursor;
 pub use search::Found;
 pub use search::next_row;

@@ -2,9 +2,11 @@
 use mathlib.Core.Path.{_≡_, refl, sym, ap, _∙_}
 use mathlib.Core.Bool.{Bool, true, false, _&&_, true≢false}
 use mathlib.Core.List.{List, [], _∷_, _++_}
-use lib.ListN.{length, drop}
+use Prim.Native.Nat.{ℕ, zero, suc, _<_}
+use lib.ListN.{length, drop, getD}
 use native.Mathlib.Omega.{arith}
-use Rattle.timeline.specs.Lists.{pick, or, any, those, flat}
+use native.Mathlib.Nat.{not-suc-le-zero}
+use Rattle.timeline.specs.Lists.{pick, or, every, any, those, flat}
 
 -- a test that both holds and fails
 pub clash : {X : Type 0} {b : Bool} → b ≡ true → b ≡ false → X
@@ -133,3 +135,37 @@ module _ {A : Type 0} where
   pub drop-front : (xs ys : List A) → drop (length xs) (xs ++ ys) ≡ ys
   drop-front [] ys = refl
   drop-front (x ∷ xs) ys = drop-front xs ys
+
+  all-at : (P : A → Type 0) (xs : List A) (d : A) → All P xs → (i : ℕ) → i < length xs → P (getD xs i d)
+  all-at P [] d a i h = absurd (not-suc-le-zero h)
+  all-at P (x ∷ xs) d a zero h = a .0
+  all-at P (x ∷ xs) d a (suc i) h = all-at P xs d (a .1) i (omega arith)
+
+  pub pairs-at : (R : A → A → Type 0) (xs : List A) (d : A) → Pairs R xs → (i j : ℕ) → i < j → j < length xs → R (getD xs i d) (getD xs j d)
+  pairs-at R [] d a i j l h = absurd (not-suc-le-zero h)
+  pairs-at R (x ∷ xs) d a i zero l h = absurd (not-suc-le-zero l)
+  pairs-at R (x ∷ xs) d a zero (suc j) l h = all-at (R x) xs d (a .0) j (omega arith)
+  pairs-at R (x ∷ xs) d a (suc i) (suc j) l h = pairs-at R xs d (a .1) i j (omega arith) (omega arith)
+
+  pub every-same : (f g : A → Bool) (xs : List A) → All (λ x. f x ≡ g x) xs → every f xs ≡ every g xs
+  unfolding every
+  every-same f g [] a = refl
+  every-same f g (x ∷ xs) a = let ih = every-same f g xs (a .1) in rw (a .0, ih)
+
+  pub any-same : (f g : A → Bool) (xs : List A) → All (λ x. f x ≡ g x) xs → any f xs ≡ any g xs
+  unfolding any
+  any-same f g [] a = refl
+  any-same f g (x ∷ xs) a = let ih = any-same f g xs (a .1) in rw (a .0, ih)
+
+  -- the pairs of a list in two parts: of each with each of the other, and of the second part
+  pub pairs-cross : (R : A → A → Type 0) (xs ys : List A) → Pairs R (xs ++ ys) → All (λ x. All (R x) ys) xs
+  pairs-cross R [] ys a = tt
+  pairs-cross R (x ∷ xs) ys a = (all-back (R x) xs ys (a .0), pairs-cross R xs ys (a .1))
+    where
+      all-back : (P : A → Type 0) (xs ys : List A) → All P (xs ++ ys) → All P ys
+      all-back P [] ys a = a
+      all-back P (x ∷ xs) ys a = all-back P xs ys (a .1)
+
+  pub pairs-back : (R : A → A → Type 0) (xs ys : List A) → Pairs R (xs ++ ys) → Pairs R ys
+  pairs-back R [] ys a = a
+  pairs-back R (x ∷ xs) ys a = pairs-back R xs ys (a .1)

@@ -1,10 +1,12 @@
 -- A ring of events in a row of numbers: a power of two of slots of five numbers each, counted round.
 -- Assumes nothing: these are definitions.
 use mathlib.Core.List.{List, [], _∷_, map}
-use Prim.Native.Nat.{ℕ, _+_, _*_, _%_}
-use lib.ListN.{getD, set}
+use Prim.Native.Nat.{ℕ, min, _+_, _-_, _*_, _%_}
+use lib.ListN.{getD, set, take, drop, replicate}
 use Rattle.std.specs.Iters.{counting}
 use Rattle.timeline.specs.declared.events.Event.{Event}
+use Rattle.timeline.specs.Order.{nothing}
+use Rattle.timeline.specs.Ordered.{put-last}
 
 -- how many slots a ring has
 abbrev pub capacity : ℕ
@@ -45,3 +47,18 @@ decode (h ∷ t ∷ []) = []
 decode (h ∷ t ∷ k ∷ []) = []
 decode (h ∷ t ∷ k ∷ w ∷ []) = []
 decode (h ∷ t ∷ k ∷ w ∷ v ∷ rest) = record { heard = h; time = t; kind = k; who = w; value = v } ∷ decode rest
+
+-- the ring with an event put in among those held, in the slots from one on
+abbrev pub with-put : List ℕ → ℕ → ℕ → Event → List ℕ
+with-put ring start len e = laid ring start (put-last e (events ring start len))
+
+-- the ring with so many slots from one on forgotten: zeros stand in them
+abbrev pub with-forgotten : List ℕ → ℕ → ℕ → List ℕ
+with-forgotten ring start n = laid ring start (replicate n nothing)
+
+-- what is held, as the numbers of two parts of the ring: from the first slot to the end of the ring at most, and the rest from its beginning on
+abbrev pub front-part : List ℕ → ℕ → ℕ → List ℕ
+front-part ring start len = take ((min (start + len) capacity - start) * 5) (drop (start * 5) ring)
+
+abbrev pub back-part : List ℕ → ℕ → ℕ → List ℕ
+back-part ring start len = take ((start + len - capacity) * 5) ring

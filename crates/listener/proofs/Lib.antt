@@ -1,0 +1,16 @@
+mod Runs
+mod Words
+mod Steps
+mod Tells
+mod Fronts
+mod Holding
+mod Hearing
+mod Counts
+mod Counted
+mod Waiting
+mod Small
+mod Cursors
+mod SmallHeads
+mod Written
+mod Steadily
+mod Whole

@@ -1,0 +1,5 @@
+pub mod Engine
+pub mod Promise
+pub mod Machine
+pub mod Holding
+pub mod Entry

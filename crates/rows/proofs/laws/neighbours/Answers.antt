@@ -1,0 +1,5 @@
+use Rattle.rows.proofs.Exchanged.{neighbours}
+use Rattle.rows.proofs.laws.neighbours.Needs as need
+
+pub returns : need.returns
+returns c = neighbours
