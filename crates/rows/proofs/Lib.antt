@@ -14,14 +14,13 @@ mod Nevers
 mod Fitting
 mod Moves
 mod Following
-mod Chosen
+pub mod Chosen
 mod Arrays
 mod Numbers
 mod Pruning
 mod Searching
 mod FirstRow
 mod LevelOk
-pub mod Chosen
 mod OneLast
 mod ByLast
 pub mod AllFound
