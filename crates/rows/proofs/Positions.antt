@@ -92,7 +92,7 @@ unfolding any
 any-append f [] ys = refl
 any-append f (x ∷ xs) ys = let ih = any-append f xs ys in grind arith
 
-any-none : (f : ℕ → Bool) (a n : ℕ) → Within (λ i. f i ≡ false) a (a + n) → any f (run a n) ≡ false
+pub any-none : (f : ℕ → Bool) (a n : ℕ) → Within (λ i. f i ≡ false) a (a + n) → any f (run a n) ≡ false
 unfolding any run
 any-none f a zero h = refl
 any-none f a (suc n) h = rw (h a (omega arith) (omega arith)) (any-none f (suc a) n (λ i k l. h i (omega arith) (omega arith)))

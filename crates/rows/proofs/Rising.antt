@@ -15,6 +15,7 @@ use Rattle.patterns.specs.Patterns.{Step, fits-step}
 use Rattle.rows.specs.Rows.{between, goes-on, rows}
 use Rattle.rows.specs.Finding.{forbidden, fits}
 use Rattle.rows.specs.SearchLaws.{Ahead, Rises}
+use Rattle.rows.proofs.Picks.{and-false}
 use Rattle.rows.proofs.Positions.{each-append, nth-each, any-between}
 
 ahead-nth : (e : Event) (h : List Event) (j : ℕ) → Ahead e h → j < length h → before e (nth h j) ≡ true
@@ -55,10 +56,6 @@ getD-snoc ps q = let n : length (ps ++ q ∷ []) - 1 ≡ length ps = omega (arit
     go : (ps : List ℕ) (q : ℕ) → getD (ps ++ q ∷ []) (length ps) 0 ≡ q
     go [] q = refl
     go (x ∷ ps) q = go ps q
-
-and-false : (a : Bool) → (a && false) ≡ false
-and-false true = refl
-and-false false = refl
 
 module _ (h : List Event) where
   pub snoc-each : (ps : List ℕ) (q : ℕ) → each (nth h) (ps ++ q ∷ []) ≡ each (nth h) ps ++ nth h q ∷ []

@@ -1,4 +1,6 @@
 // Rows of events that fit a pattern: what they are, and how they are found.
+mod held;
+mod levels;
 mod laws;
 mod search;
 mod searched;
@@ -21,6 +23,7 @@ pub use laws::sorted_rises;
 pub use laws::told_once;
 pub use search::Cursor;
 pub use search::Found;
+pub use search::next_row;
 pub use searched::goes_on;
 pub use searched::is_over;
 pub use searched::rest_is;
