@@ -6,19 +6,28 @@ use Prim.Native.Nat.{ℕ, suc, _+_, _-_, _%_, _<_, _≤_}
 use native.Mathlib.Omega.{arith}
 use borrow.Author.Tests.{lt-ltb, le-ltb}
 use lib.Dec.{ltb}
-use lib.ListN.{length, take}
+use lib.ListN.{length, getD, take, drop}
+use Rattle.std.proofs.shelf.Lists.{length-take-le}
+use Rattle.std.proofs.shelf.Ways.{tells as by-tests}
+use Rattle.std.specs.declared.option.Option.{Option}
+use Rattle.std.specs.declared.option.Option.the-variants.{Some, None}
 use Rattle.timeline.specs.declared.events.Event.{Event}
 use Rattle.timeline.specs.Lists.{pick}
-use Rattle.timeline.specs.Ring.{capacity, with-forgotten}
+use Rattle.timeline.specs.Ring.{capacity, events, with-forgotten}
 use Rattle.patterns.specs.Patterns.{Pattern, named}
+use Rattle.patterns.specs.Kept.{at-most, kept-pattern, kept-count}
+use Rattle.rows.specs.declared.search.Cursor.{Cursor}
+use Rattle.rows.specs.declared.search.Found.{Found}
+use Rattle.rows.specs.Finding.{next-found}
 use Rattle.listener.specs.declared.head.Phase.{Phase}
 use Rattle.listener.specs.declared.head.Phase.the-variants.{New, Waiting, Telling, Ending, Over as Done}
 use Rattle.listener.specs.declared.head.Head.{Head}
 use Rattle.listener.specs.declared.head.Turn.{Turn}
 use Rattle.listener.specs.declared.head.Turn.the-variants.{Late, Full, Counts}
 use Rattle.listener.specs.declared.acts.Told.{Told}
-use Rattle.listener.specs.Engine.{Act, waits, Stepped}
-use Rattle.listener.specs.Machine.{memory-long, no-places, memory-of, cells-of, ring-of, room, latest-with, stale-with, counting, hear, settled-head, phase-after, act-after}
+use Rattle.listener.specs.declared.acts.Told.the-variants.{Row}
+use Rattle.listener.specs.Engine.{Act, tells, waits, Stepped}
+use Rattle.listener.specs.Machine.{memory-long, no-places, memory-of, cells-of, ring-of, room, latest-with, stale-with, counting, hear, settled-head, settled, phase-after, act-after, with-places, told-or-settled, tell-from}
 use Rattle.listener.specs.Entry.{Act-told, Did}
 use Rattle.listener.proofs.Words.{cells-stay, ring-there}
 
@@ -63,3 +72,33 @@ settles m m₁ h ph start len known long e (a, b) k =
     ap₂ (λ (x y : List ℕ). memory-of ph (settled-to h start len known) x y) (ap cells-of e ∙ cells-stay m r long) (ap ring-of e ∙ ring-there m r long)
     ∙ ap₂ (λ (x y : ℕ). memory-of ph (settled-to h x y known) (cells-of m) r) a b
     ∙ ap (λ (x : ℕ). memory-of ph (settled-to h ((h .start + h .stale) % capacity) (h .len - h .stale) x) (cells-of m) r) k
+
+-- TELLING
+module _ (ph : Phase) (h : Head) (cells ring : List ℕ) (c : Cursor) where
+  abbrev found : Option Found
+  found = next-found (events ring (h .start) (h .len)) (kept-pattern cells) (h .upto) c
+
+  tells-by : (o : Option Found) → o ≡ found → tell-from ph h cells ring c ≡ told-or-settled ph h cells ring o
+  unfolding tell-from
+  tells-by o e = ap (told-or-settled ph h cells ring) (sym e)
+
+  pub tells-none :
+      (t : Told) (m₁ out out₁ : List ℕ) → None ≡ found → Did (settled ph h cells ring) t m₁ out out₁ → Did (tell-from ph h cells ring c) t m₁ out out₁
+  tells-none t m₁ out out₁ e d = subst (λ (st : Stepped). Did st t m₁ out out₁) (sym (tells-by None e)) d
+
+  six-most : (n k : ℕ) → k ≡ at-most 6 n → k ≤ 6
+  six-most n k e = grind (arith, by-tests)
+
+  row-told :
+      (xs out out₁ : List ℕ) (k n : ℕ) → n ≡ k → k ≤ 6 → length xs ≡ 6 → out₁ ≡ take n xs ++ drop n out → Act-told (tells (take k xs)) (Row n) out out₁
+  unfolding Act-told
+  row-told xs out out₁ k n e l s w =
+      let long : length (take k xs) ≡ k = length-take-le k xs (omega arith) in
+      (ap Row (e ∙ sym long), w ∙ ap (λ (x : ℕ). take x xs ++ drop x out) e ∙ ap (λ (x : ℕ). take k xs ++ drop x out) (sym long))
+
+  pub tells-row :
+      (f : Found) (n : ℕ) (m₁ out out₁ : List ℕ) → Some f ≡ found → n ≡ kept-count cells → length (f .numbers) ≡ 6
+      → m₁ ≡ memory-of ph (with-places h (f .next .at)) cells ring → out₁ ≡ take n (f .numbers) ++ drop n out → Did (tell-from ph h cells ring c) (Row n) m₁ out out₁
+  tells-row f n m₁ out out₁ e k s m w =
+      subst (λ (st : Stepped). Did st (Row n) m₁ out out₁) (sym (tells-by (Some f) e))
+      (record { memory = m; told = row-told (f .numbers) out out₁ (kept-count cells) n k (six-most (getD cells 2 0) (kept-count cells) refl) s w })

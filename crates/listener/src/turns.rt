@@ -1,21 +1,30 @@
 // What the listener does: it hears an event, tells rows, and settles.
 ghost use mathlib.Core.Path.{_≡_};
+ghost use mathlib.Core.List.{_++_};
 ghost use Prim.Native.Nat.{_+_, _-_, _<_, _≤_};
-ghost use lib.ListN.{length};
+ghost use lib.ListN.{length, take, drop};
 ghost use Rattle.timeline.specs.Lists.{pick};
 ghost use Rattle.timeline.specs.Ring.{capacity, events as events-of};
 ghost use Rattle.patterns.specs.Kept.{kept-pattern};
-ghost use Rattle.listener.specs.Machine.{memory-long, cells-of, ring-of, Bounded, latest-with, settled, hear as hear-of};
+ghost use Rattle.rows.specs.Finding.{next-found};
+ghost use Rattle.listener.specs.Machine.{memory-long, cells-of, ring-of, Bounded, latest-with, settled, tell-from, hear as hear-of};
 ghost use Rattle.listener.specs.Entry.{Did};
 use crate::acts::Told;
 use crate::head::Head;
+use crate::head::MEMORY_LONG;
 use crate::head::Phase;
+use crate::head::RING;
 use crate::head::ROOM;
 use crate::head::Turn;
 use crate::memory::forget_stale;
 use crate::memory::pattern_in;
 use crate::memory::run_below;
+use crate::memory::span_of;
+use rows::Cursor;
+use rows::Found;
+use rows::next_row;
 use timeline::Event;
+use timeline::parts;
 
 // The greatest time once an event has counted.
 fn latest_with(head: Head, e: Event) -> u64
@@ -91,4 +100,39 @@ fn settle(memory: &mut [u64], phase: Phase, head: Head, out: &mut [u64]) -> Told
             Told::Waits
         }
     }
+}
+
+// The next row from a cursor on.
+fn next_in(memory: &[u64], head: Head, cursor: Cursor) -> Option<Found>
+    requires { ⌜ length (now memory) ≡ memory-long ⌝ ∗ ⌜ head .start < capacity ⌝ ∗ ⌜ head .len ≤ capacity ⌝ }
+    ensures { λ r. ⌜ r ≡ next-found (events-of (ring-of (now (memory .entry))) (head .start) (head .len)) (kept-pattern (cells-of (now (memory .entry)))) (head .upto) cursor ⌝ }
+{
+    match parts(&memory[RING..MEMORY_LONG], span_of(head)) {
+        Some((front, back)) => next_row(front, back, pattern_in(memory), head.upto, cursor),
+        None => unreachable(),
+    }
+}
+
+// The first so many of six numbers, in front of the lent row.
+fn write_row(out: &mut [u64], numbers: [u64; 6], many: usize)
+    requires { ⌜ 6 ≤ length (now out) ⌝ ∗ ⌜ many ≤ 6 ⌝ }
+    ensures { λ _. ⌜ now (out .exit) ≡ take many numbers ++ drop many (now (out .entry)) ⌝ }
+{
+    out[..many].copy_from_slice(&numbers[..many]);
+}
+
+// Tells the next row from a cursor on; where there is none, the telling is done with.
+fn tell(memory: &mut [u64], phase: Phase, head: Head, cursor: Cursor, out: &mut [u64]) -> Told
+    requires { ⌜ length (now memory) ≡ memory-long ⌝ ∗ ⌜ 6 ≤ length (now out) ⌝ }
+    requires { ⌜ head .start < capacity ⌝ ∗ ⌜ head .len ≤ capacity ⌝ ∗ ⌜ head .stale ≤ head .len ⌝ }
+    ensures { λ r. ⌜ Did (tell-from phase head (cells-of (now (memory .entry))) (ring-of (now (memory .entry))) cursor) r (now (memory .exit)) (now (out .entry)) (now (out .exit)) ⌝ }
+{
+    let Some(found) = next_in(memory, head, cursor) else {
+        return settle(memory, phase, head, out);
+    };
+    let steps = pattern_in(memory).steps();
+    let at = found.next.at;
+    Head { at, ..head }.store(memory, phase);
+    write_row(out, found.numbers, steps);
+    Told::Row(steps as u64)
 }
