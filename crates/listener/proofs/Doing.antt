@@ -19,6 +19,7 @@ use Rattle.patterns.specs.Kept.{at-most, kept-pattern, kept-count}
 use Rattle.rows.specs.declared.search.Cursor.{Cursor}
 use Rattle.rows.specs.declared.search.Found.{Found}
 use Rattle.rows.specs.Finding.{next-found}
+use Rattle.rows.specs.SearchLaws.{begin-at}
 use Rattle.listener.specs.declared.head.Phase.{Phase}
 use Rattle.listener.specs.declared.head.Phase.the-variants.{New, Waiting, Telling, Ending, Over as Done}
 use Rattle.listener.specs.declared.head.Head.{Head}
@@ -27,7 +28,7 @@ use Rattle.listener.specs.declared.head.Turn.the-variants.{Late, Full, Counts}
 use Rattle.listener.specs.declared.acts.Told.{Told}
 use Rattle.listener.specs.declared.acts.Told.the-variants.{Row}
 use Rattle.listener.specs.Engine.{Act, tells, waits, Stepped}
-use Rattle.listener.specs.Machine.{memory-long, no-places, memory-of, cells-of, ring-of, room, latest-with, stale-with, counting, hear, settled-head, settled, phase-after, act-after, with-places, told-or-settled, tell-from}
+use Rattle.listener.specs.Machine.{memory-long, no-places, memory-of, cells-of, ring-of, room, latest-with, stale-with, counting, hear, settled-head, settled, phase-after, act-after, with-places, told-or-settled, tell-from, below-run, ring-with, len-with, turned}
 use Rattle.listener.specs.Entry.{Act-told, Did}
 use Rattle.listener.proofs.Words.{cells-stay, ring-there}
 
@@ -102,3 +103,26 @@ module _ (ph : Phase) (h : Head) (cells ring : List ℕ) (c : Cursor) where
   tells-row f n m₁ out out₁ e k s m w =
       subst (λ (st : Stepped). Did st (Row n) m₁ out out₁) (sym (tells-by (Some f) e))
       (record { memory = m; told = row-told (f .numbers) out out₁ (kept-count cells) n k (six-most (getD cells 2 0) (kept-count cells) refl) s w })
+
+-- AN EVENT THAT COUNTS
+abbrev with-len : Head → ℕ → ℕ → Head
+with-len h len upto =
+    record { count = h .count; latest = h .latest; start = h .start; len = len; known = h .known; upto = upto; stale = h .stale; at = h .at }
+
+abbrev upto-from : Head → ℕ → ℕ → List ℕ → ℕ
+upto-from h mark len ring = h .known + below-run (mark + 1) (drop (h .known) (events ring (h .start) len))
+
+pub counted-is :
+    (m m₁ : List ℕ) (h : Head) (e : Event) (b : Bool) (len late mark upto : ℕ) (cur : Cursor) → length m ≡ memory-long
+    → m₁ ≡ take 419 m ++ ring-with h e b (ring-of m) → len ≡ len-with h b → late ≡ kept-pattern (cells-of m₁) .late → mark ≡ h .latest - late
+    → upto ≡ upto-from h mark len (ring-of m₁) → cur ≡ begin-at (h .known)
+    → tell-from Telling (with-len h len upto) (cells-of m₁) (ring-of m₁) cur ≡ turned h (cells-of m) (ring-of m) e (Counts h b)
+counted-is m m₁ h e b len late mark upto cur long wrote is-len is-late is-mark is-upto is-cur =
+    let ring : List ℕ = ring-with h e b (ring-of m) in
+    let cells-are = ap cells-of wrote ∙ cells-stay m ring long in
+    let ring-is = ap ring-of wrote ∙ ring-there m ring long in
+    let mark-is : mark ≡ h .latest - kept-pattern (cells-of m) .late = is-mark ∙ ap (λ (x : ℕ). h .latest - x) (is-late ∙ ap (λ (w : List ℕ). kept-pattern w .late) cells-are) in
+    let upto-are = is-upto ∙ ap₂ (λ (x : ℕ) (r : List ℕ). upto-from h x len r) mark-is ring-is ∙ ap (λ (l : ℕ). upto-from h (h .latest - kept-pattern (cells-of m) .late) l ring) is-len in
+    ap₂ (λ (w r : List ℕ). tell-from Telling (with-len h len upto) w r cur) cells-are ring-is
+    ∙ ap₂ (λ (l u : ℕ). tell-from Telling (with-len h l u) (cells-of m) ring cur) is-len upto-are
+    ∙ ap (tell-from Telling (with-len h (len-with h b) (upto-from h (h .latest - kept-pattern (cells-of m) .late) (len-with h b) ring)) (cells-of m) ring) is-cur

@@ -15,3 +15,5 @@ mod Written
 mod Steadily
 mod Whole
 mod Doing
+mod Saying
+mod Entering

@@ -87,6 +87,19 @@ pub record Bounded (h : Head) : Type 0 where
   pub upto : h .upto ≤ h .len
   pub stale : h .stale ≤ h .len
 
+-- what a state is known by in which rows are about to be told
+pub record Ready (h : Head) : Type 0 where
+  pub latest : h .latest < 4611686018427387904
+  pub start : h .start < capacity
+  pub len : h .len ≤ suc room
+  pub known : h .known ≤ h .len
+  pub stale : h .stale ≤ h .len
+
+abbrev pub Ready-turn : Turn → Type 0
+Ready-turn Late = Unit {0}
+Ready-turn Full = Unit {0}
+Ready-turn (Counts h b) = Ready h
+
 -- the state, where it is one and the phase is this
 unfoldable pub head-at : Phase → List ℕ → Option Head
 head-at ph m = pick (eqb (getD m 0 0) (phase-number ph) && a-head (head-of m)) (Some (head-of m)) None

@@ -7,7 +7,9 @@ ghost use Rattle.timeline.specs.Lists.{pick};
 ghost use Rattle.timeline.specs.Ring.{capacity, events as events-of};
 ghost use Rattle.patterns.specs.Kept.{kept-pattern};
 ghost use Rattle.rows.specs.Finding.{next-found};
-ghost use Rattle.listener.specs.Machine.{memory-long, cells-of, ring-of, Bounded, latest-with, settled, tell-from, hear as hear-of};
+ghost use Rattle.rows.specs.SearchLaws.{begin-at};
+ghost use Rattle.listener.specs.declared.head.Turn.the-variants.{Counts};
+ghost use Rattle.listener.specs.Machine.{memory-long, cells-of, ring-of, Bounded, Ready, Ready-turn, latest-with, settled, tell-from, ring-with, len-with, turned, hear as hear-of};
 ghost use Rattle.listener.specs.Entry.{Did};
 use crate::acts::Told;
 use crate::head::Head;
@@ -17,6 +19,7 @@ use crate::head::RING;
 use crate::head::ROOM;
 use crate::head::Turn;
 use crate::memory::forget_stale;
+use crate::memory::hold;
 use crate::memory::pattern_in;
 use crate::memory::run_below;
 use crate::memory::span_of;
@@ -47,9 +50,10 @@ fn stays(len: usize, stale: usize, named: bool) -> usize
 }
 
 // What an event brings about: it is too late, there is no room, or it counts. It looks at the stale events alone, and changes nothing.
-fn hear(memory: &[u64], head: Head, e: Event) -> Turn
-    requires { ⌜ length (now memory) ≡ memory-long ⌝ ∗ ⌜ Bounded head ⌝ }
-    ensures { λ r. ⌜ r ≡ hear-of (kept-pattern (cells-of (now (memory .entry)))) head (events-of (ring-of (now (memory .entry))) (head .start) (head .len)) e ⌝ }
+pub fn hear(memory: &[u64], head: Head, e: Event) -> Turn
+    requires { ⌜ length (now memory) ≡ memory-long ⌝ ∗ ⌜ Bounded head ⌝ ∗ ⌜ e .time < 4611686018427387904 ⌝ }
+    ensures bound { λ r. ⌜ Ready-turn r ⌝ }
+    ensures value { λ r. ⌜ r ≡ hear-of (kept-pattern (cells-of (now (memory .entry)))) head (events-of (ring-of (now (memory .entry))) (head .start) (head .len)) e ⌝ }
 {
     let pattern = pattern_in(memory);
     let late = pattern.late();
@@ -122,7 +126,7 @@ fn write_row(out: &mut [u64], numbers: [u64; 6], many: usize)
 }
 
 // Tells the next row from a cursor on; where there is none, the telling is done with.
-fn tell(memory: &mut [u64], phase: Phase, head: Head, cursor: Cursor, out: &mut [u64]) -> Told
+pub fn tell(memory: &mut [u64], phase: Phase, head: Head, cursor: Cursor, out: &mut [u64]) -> Told
     requires { ⌜ length (now memory) ≡ memory-long ⌝ ∗ ⌜ 6 ≤ length (now out) ⌝ }
     requires { ⌜ head .start < capacity ⌝ ∗ ⌜ head .len ≤ capacity ⌝ ∗ ⌜ head .stale ≤ head .len ⌝ }
     ensures { λ r. ⌜ Did (tell-from phase head (cells-of (now (memory .entry))) (ring-of (now (memory .entry))) cursor) r (now (memory .exit)) (now (out .entry)) (now (out .exit)) ⌝ }
@@ -135,4 +139,41 @@ fn tell(memory: &mut [u64], phase: Phase, head: Head, cursor: Cursor, out: &mut 
     Head { at, ..head }.store(memory, phase);
     write_row(out, found.numbers, steps);
     Told::Row(steps as u64)
+}
+
+// Holds an event that the pattern names, and leaves one that it doesn't; how many are held then.
+fn take_in(memory: &mut [u64], head: Head, e: Event, named: bool) -> usize
+    requires { ⌜ length (now memory) ≡ memory-long ⌝ ∗ ⌜ head .start < capacity ⌝ ∗ ⌜ head .len < capacity ⌝ }
+    ensures after { λ _. ⌜ now (memory .exit) ≡ take 419 (now (memory .entry)) ++ ring-with head e named (ring-of (now (memory .entry))) ⌝ }
+    ensures value { λ r. ⌜ r ≡ len-with head named ⌝ }
+{
+    if named {
+        hold(memory, head, e);
+        head.len + 1
+    } else {
+        head.len
+    }
+}
+
+// Where a search begins, with the last event at a position.
+pub fn begin_at(known: usize) -> Cursor
+    ensures { λ r. ⌜ r ≡ begin-at known ⌝ }
+{
+    Cursor {
+        depth: 0,
+        at: [known, 0, 0, 0, 0, 0],
+    }
+}
+
+// An event counts: it is held if it has to be, and the rows are told whose last events are now not above what is heard to.
+pub fn count(memory: &mut [u64], head: Head, e: Event, named: bool, out: &mut [u64]) -> Told
+    requires { ⌜ length (now memory) ≡ memory-long ⌝ ∗ ⌜ 6 ≤ length (now out) ⌝ ∗ ⌜ Ready head ⌝ }
+    ensures { λ r. ⌜ Did (turned head (cells-of (now (memory .entry))) (ring-of (now (memory .entry))) e (Counts head named)) r (now (memory .exit)) (now (out .entry)) (now (out .exit)) ⌝ }
+{
+    let len = take_in(memory, head, e, named);
+    let head = Head { len, ..head };
+    let mark = head.latest.saturating_sub(pattern_in(memory).late());
+    let upto = run_below(memory, head, head.known, mark + 1);
+    let head = Head { upto, ..head };
+    tell(memory, Phase::Telling, head, begin_at(head.known), out)
 }
