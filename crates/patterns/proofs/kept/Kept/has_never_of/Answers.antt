@@ -5,7 +5,7 @@ use Rattle.std.proofs.shelf.Tests.{eq-eqb, ne-eqb}
 use Rattle.timeline.specs.Lists.{any}
 use Rattle.patterns.specs.Kept.{kept-never, step-place}
 use Rattle.patterns.proofs.Runs.{any-stop, any-more, any-end}
-use Rattle.patterns.proofs.Tests.{nevers-all}
+use Rattle.patterns.proofs.Holds.{nevers-all}
 use Rattle.patterns.proofs.kept.Kept.has_never_of.Needs as need
 
 pub loop-i-holds : need.loop-i-holds

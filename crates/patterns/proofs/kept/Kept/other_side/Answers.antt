@@ -4,7 +4,7 @@ use Prim.Native.Nat.{_+_}
 use Rattle.timeline.specs.Order.{nth}
 use Rattle.patterns.specs.Patterns.{field}
 use Rattle.patterns.specs.Codes.{field-number}
-use Rattle.patterns.proofs.Tests.{field-read, other-number, other-field}
+use Rattle.patterns.proofs.Holds.{field-read, other-number, other-field}
 use Rattle.patterns.proofs.kept.Kept.other_side.Needs as need
 
 pub returns-then-self-at-eq0 : need.returns-then-self-at-eq0
