@@ -2,7 +2,7 @@ pub mod Runs
 pub mod Steps
 pub mod Back
 pub mod Words
-mod Tests
+mod Holds
 mod Laying
 mod Parts
 mod May
