@@ -3,7 +3,7 @@ ghost use mathlib.Core.Path.{_≡_};
 ghost use mathlib.Core.Bool.{false};
 ghost use Prim.Native.Nat.{ℕ, _+_, _-_, _<_, _≤_};
 ghost use lib.ListN.{length, getD};
-ghost use Rattle.timeline.specs.Lists.{any, each, run};
+ghost use Rattle.timeline.specs.Lists.{any, run};
 ghost use Rattle.timeline.specs.Order.{nothing, nth};
 ghost use Rattle.patterns.specs.Kept.{kept-step, kept-count, kept-pattern};
 ghost use Rattle.rows.specs.Held.{held, how-many, Standing, Along};

@@ -1,7 +1,7 @@
 // Rows of events that fit a pattern: what they are, and how they are found.
 mod held;
-mod levels;
 mod laws;
+mod levels;
 mod search;
 mod searched;
 

@@ -1,13 +1,12 @@
-use mathlib.Core.Path.{_≡_, refl, sym, ap, ap₂, _∙_}
-use Prim.Native.Nat.{_+_, _-_, _<_, _≤_}
+use mathlib.Core.Path.{sym, ap, ap₂, _∙_}
+use Prim.Native.Nat.{_+_, _-_}
 use native.Mathlib.Omega.{arith}
 use lib.Dec.{leb}
-use lib.ListN.{getD}
 use Rattle.timeline.specs.Order.{nth}
 use Rattle.patterns.specs.Kept.{kept-pattern}
 use Rattle.patterns.proofs.Steps.{steps-long}
 use Rattle.rows.specs.Held.{held}
-use Rattle.rows.proofs.Pruning.{Starts, starts-first, starts-next}
+use Rattle.rows.proofs.Pruning.{starts-first, starts-next}
 use Rattle.rows.proofs.levels.Search.level_start.Needs as need
 
 pub returns-then-depth-eq1 : need.returns-then-depth-eq1
