@@ -131,8 +131,8 @@ impl Search<'_> {
         ensures passed { λ r. ⌜ ((upto i : ℕ) → row-lo (chosen (now (at .entry)) depth) ≤ i → i < r → Barren (space (held (now (self .entry .held .front)) (now (self .entry .held .back))) (kept-pattern (now (self .entry .kept .words))) upto) (length (kept-pattern (now (self .entry .kept .words)) .steps) - 1 - depth) (chosen (now (at .entry)) depth) i) ⌝ }
     {
         if depth == 1 {
-            return self.held
-                .first_in_reach(last.time, self.kept.within(), at[0]);
+            let within = self.kept.within();
+            return self.held.first_in_reach(last.time, within, at[0]);
         }
         at[depth - 1] + 1
     }

@@ -15,7 +15,7 @@ returns-then-depth-eq1 c =
     let s = starts-first h (kept-pattern (c .args .self .kept .words .now)) (c .args .at .now) (c .args .depth) (c .first-in-reach .result) (c .if-depth-eq1 .taken)
     (omega (arith, c .pre .0 .1 .0, steps-long (c .args .self .kept .words .now))) (c .first-in-reach .ensures .bounds)
     (λ i l.
-    ap₂ (λ t w. leb t ((nth h i .time) + w)) (sym (ap (λ e. e .time) (c .pre .0 .1 .1))) (sym (c .within .ensures)) ∙ c .first-in-reach .ensures .passed i l) in
+    ap₂ (λ t w. leb t ((nth h i .time) + w)) (sym (ap (λ e. e .time) (c .pre .0 .1 .1))) (sym (c .within-within .ensures)) ∙ c .first-in-reach .ensures .passed i l) in
     record { bounds = s .0; passed = s .1 }
 
 pub returns : need.returns
