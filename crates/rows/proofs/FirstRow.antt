@@ -2,11 +2,10 @@
 use mathlib.Core.Path.{_≡_, refl, sym, ap, ap₂, _∙_}
 use mathlib.Core.Bool.{true, false}
 use mathlib.Core.List.{List}
-use Prim.Native.Nat.{ℕ, suc, _+_, _-_, _≤_, _<_}
+use Prim.Native.Nat.{ℕ, _+_, _-_, _≤_, _<_}
 use native.Mathlib.Omega.{arith}
 use lib.ListN.{length, getD, set}
 use Rattle.std.proofs.shelf.Lists.{length-set}
-use Rattle.std.specs.declared.option.Option.{Option}
 use Rattle.std.specs.declared.option.Option.the-variants.{Some, None}
 use Rattle.timeline.specs.declared.events.Event.{Event}
 use Rattle.timeline.specs.Order.{nothing, nth}
@@ -14,8 +13,8 @@ use Rattle.patterns.specs.Patterns.{Pattern}
 use Rattle.patterns.specs.Kept.{kept-count, kept-pattern}
 use Rattle.patterns.proofs.Steps.{steps-long}
 use Rattle.rows.specs.Held.{held, how-many, Along}
-use Rattle.rows.specs.Search.{Barren, chosen}
-use Rattle.rows.specs.Finding.{row-ok, row-lo, row-hi, space, to-come, six-of, behind, found-first, placed, next-found}
+use Rattle.rows.specs.Search.{chosen}
+use Rattle.rows.specs.Finding.{row-ok, row-hi, to-come, six-of, behind, found-first, placed, next-found}
 use Rattle.rows.specs.declared.search.Cursor.{Cursor}
 use Rattle.rows.specs.declared.search.Found.{Found}
 use Rattle.rows.proofs.Decoded.{length-held}

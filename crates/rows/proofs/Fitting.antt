@@ -1,16 +1,17 @@
 -- What a step asks of a position, in the order in which it is asked.
-use mathlib.Core.Path.{_≡_, refl, sym, ap, subst, _∙_}
-use mathlib.Core.Bool.{Bool, true, false, _&&_, not}
+use mathlib.Core.Path.{_≡_, refl, sym, ap, _∙_}
+use mathlib.Core.Bool.{true, false, _&&_, not}
 use mathlib.Core.List.{List, [], _∷_}
-use Prim.Native.Nat.{ℕ, zero, suc, _+_, _-_, _≤_, _<_}
+use Prim.Native.Nat.{ℕ, suc, _+_, _-_, _<_}
 use native.Mathlib.Omega.{arith}
 use native.Mathlib.Numerals.{add-one}
 use lib.Dec.{eqb, leb}
 use lib.ListN.{length, getD}
 use Rattle.std.proofs.shelf.Tests.{ne-eqb}
 use Rattle.timeline.specs.declared.events.Event.{Event}
-use Rattle.timeline.specs.Lists.{pick, each, none-of}
+use Rattle.timeline.specs.Lists.{pick, none-of}
 use Rattle.timeline.specs.Order.{nothing, nth}
+use Rattle.timeline.proofs.Order.{nth-is}
 use Rattle.patterns.specs.Patterns.{Step, fits-step}
 use Rattle.rows.specs.Held.{Standing}
 use Rattle.rows.specs.Finding.{fits}
@@ -21,12 +22,6 @@ none-length : {A : Type 0} (xs : List A) → none-of xs ≡ eqb (length xs) 0
 unfolding none-of
 none-length [] = refl
 none-length (x ∷ xs) = sym (ne-eqb (suc (length xs)) 0 (λ e. omega arith))
-
-pub nth-in : (es : List Event) (i : ℕ) → getD es i nothing ≡ nth es i
-unfolding nth
-nth-in [] i = refl
-nth-in (e ∷ es) zero = refl
-nth-in (e ∷ es) (suc i) = nth-in es i
 
 -- the position before the next one
 abbrev pub last-place : List ℕ → ℕ
@@ -50,7 +45,7 @@ module _ (h : List Event) (w : ℕ) (s : Step) (places : List ℕ) (earlier : Li
 
     module _ (b : eqb (length places) 0 ≡ false) (some : 0 < length places) where
       first-time : getD earlier 0 nothing .time ≡ nth h (getD places 0 0) .time
-      first-time = ap (λ x. x .time) (nth-in earlier 0 ∙ ap (λ es. nth es 0) (st .are) ∙ nth-each h places 0 some)
+      first-time = ap (λ x. x .time) (sym (nth-is earlier 0) ∙ ap (λ es. nth es 0) (st .are) ∙ nth-each h places 0 some)
 
       -- it is out of the window
       pub fits-late : leb (e .time) ((getD earlier 0 nothing .time) + w) ≡ false → false ≡ fits h w s places p

@@ -43,12 +43,6 @@ pub hi-deep : (upto : ℕ) (at : List ℕ) (d : ℕ) → (d ≡ 0 → ⊥) → d
 hi-deep upto at zero n l = absurd (n refl)
 hi-deep upto at (suc d) n l = hi-some upto at d l
 
-pub lo-few : (at : List ℕ) (d : ℕ) → d < 2 → 0 ≡ row-lo (chosen at d)
-unfolding row-lo chosen
-lo-few at zero l = refl
-lo-few at (suc zero) l = refl
-lo-few at (suc (suc d)) l = absurd (omega arith)
-
 pub lo-more : (at : List ℕ) (d : ℕ) → 2 ≤ d → getD at (d - 1) 0 + 1 ≡ row-lo (chosen at d)
 unfolding row-lo chosen
 lo-more at zero l = absurd (omega arith)
@@ -59,12 +53,6 @@ pub hi-small : (upto : ℕ) (at : List ℕ) (d : ℕ) → d ≤ length at → ((
 unfolding row-hi chosen
 hi-small upto at zero l h = omega arith
 hi-small upto at (suc d) l h = omega (arith, hi-some upto at d l, h 0 (omega arith))
-
-pub lo-small : (upto : ℕ) (at : List ℕ) (d : ℕ) → ((j : ℕ) → j < d → getD at j 0 < upto) → row-lo (chosen at d) ≤ upto
-unfolding row-lo chosen
-lo-small upto at zero h = omega arith
-lo-small upto at (suc zero) h = omega arith
-lo-small upto at (suc (suc d)) h = h (suc d) (omega arith)
 
 -- EVENTS AT POSITIONS: those of the steps before, without the last event
 take-each : (h : List Event) (xs : List ℕ) (es : List Event) (m : ℕ) → m ≤ length xs → m ≤ length es → ((j : ℕ) → j < m → getD es j nothing ≡ nth h (getD xs j 0)) → take m es ≡ each (nth h) (take m xs)

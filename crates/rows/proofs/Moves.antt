@@ -6,16 +6,9 @@ use mathlib.Core.List.{List, [], _∷_, _++_, append-assoc}
 use Prim.Native.Nat.{ℕ, zero, suc, _+_, _-_, _*_, _≤_, _<_}
 use native.Mathlib.Omega.{arith}
 use native.Mathlib.Nat.{add-mul, mul-le-mul-right}
-use Rattle.timeline.specs.Lists.{those, flat, run}
+use Rattle.timeline.specs.Lists.{those, flat}
 use Rattle.rows.specs.Search.{Space, paths, Barren, from, rest}
-
-run-none : (c h : ℕ) → h ≤ c → run c (h - c) ≡ []
-unfolding run
-run-none c h l = let e : h - c ≡ 0 = omega arith in rw e refl
-
-run-more : (c h : ℕ) → c < h → run c (h - c) ≡ c ∷ run (suc c) (h - suc c)
-unfolding run
-run-more c h l = let e : h - c ≡ suc (h - suc c) = omega arith in rw e refl
+use Rattle.rows.proofs.Positions.{run-none, run-more}
 
 module _ (S : Space) where
   from-none : (n : ℕ) (pre : List ℕ) (c : ℕ) → S .hi pre ≤ c → from S n pre c ≡ []

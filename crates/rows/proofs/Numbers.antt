@@ -10,7 +10,7 @@ use Rattle.timeline.specs.Order.{nothing, nth}
 use Rattle.rows.specs.Held.{Along}
 use Rattle.rows.specs.Known.{numbers}
 use Rattle.rows.specs.Search.{chosen}
-use Rattle.rows.specs.Finding.{row-of, six, number-at, six-of}
+use Rattle.rows.specs.Finding.{row-of, six, six-of}
 use Rattle.rows.proofs.Chosen.{chosen-forward}
 
 module _ (h : List Event) (row : List Event) (a b c d e f : ℕ) where

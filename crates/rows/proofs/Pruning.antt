@@ -1,6 +1,6 @@
 -- Positions that lead nowhere: of another kind than the level's step, and those from which the last event is out of the window.
 use mathlib.Core.Path.{_≡_, refl, sym, ap, _∙_}
-use mathlib.Core.Bool.{Bool, true, false, _&&_}
+use mathlib.Core.Bool.{Bool, true, false}
 use mathlib.Core.List.{List, [], _∷_, _++_}
 use Prim.Native.Nat.{ℕ, zero, suc, _+_, _-_, _≤_, _<_}
 use native.Mathlib.Omega.{arith}
@@ -9,7 +9,7 @@ use lib.ListN.{length, getD, drop}
 use Rattle.std.proofs.shelf.Ways.{tells}
 use Rattle.std.proofs.shelf.Tests.{eq-eqb, ne-eqb, eqb-true}
 use Rattle.timeline.specs.declared.events.Event.{Event}
-use Rattle.timeline.specs.Lists.{pick, those, flat, each, run, none-of}
+use Rattle.timeline.specs.Lists.{those, flat, each, run, none-of}
 use Rattle.timeline.specs.Order.{nth}
 use Rattle.timeline.proofs.Lists.{all-any, those-none, clash}
 use Rattle.patterns.specs.Patterns.{Step, Pattern, fits-step}

@@ -9,7 +9,6 @@ use native.Mathlib.Numerals.{add-one}
 use lib.ListN.{length, getD, set}
 use borrow.Author.Count.{below-more}
 use Rattle.std.proofs.shelf.Lists.{getD-set-same, getD-set-other, length-set}
-use Rattle.std.specs.declared.option.Option.{Option}
 use Rattle.std.specs.declared.option.Option.the-variants.{Some, None}
 use Rattle.timeline.specs.declared.events.Event.{Event}
 use Rattle.timeline.specs.Order.{nothing, nth}
@@ -19,7 +18,6 @@ use Rattle.rows.specs.Held.{Along}
 use Rattle.rows.specs.Search.{Space, chosen}
 use Rattle.rows.specs.Finding.{row-ok, row-hi, space, to-come, six-of, behind, found-first}
 use Rattle.rows.specs.declared.search.Cursor.{Cursor}
-use Rattle.rows.specs.declared.search.Found.{Found}
 use Rattle.rows.proofs.Chosen.{chosen-set, Placed}
 use Rattle.rows.proofs.Arrays.{Came, to-do, went-back, went-to, went-on, went-down, way-found, none-left}
 use Rattle.rows.proofs.LevelOk.{hi-deep, hi-small}

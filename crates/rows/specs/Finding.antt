@@ -1,7 +1,7 @@
 -- The search of a pattern's rows by positions in a list of events, for every list, in order or not. The last event is chosen first, then the
 -- others from the first on, so that the rows of one last event and those of the next are one search.
 -- Assumes nothing: these are definitions.
-use mathlib.Core.Bool.{Bool, true, false, _&&_, not}
+use mathlib.Core.Bool.{Bool, true, _&&_, not}
 use mathlib.Core.List.{List, [], _∷_, _++_}
 use Prim.Native.Nat.{ℕ, zero, suc, _+_, _-_}
 use lib.Dec.{eqb, ltb, leb}

@@ -3,7 +3,7 @@ ghost use mathlib.Core.Path.{_≡_};
 ghost use mathlib.Core.Bool.{false};
 ghost use Prim.Native.Nat.{ℕ, _+_, _-_, _<_, _≤_};
 ghost use lib.ListN.{length, getD};
-ghost use Rattle.timeline.specs.Lists.{any, each, run};
+ghost use Rattle.timeline.specs.Lists.{any, run};
 ghost use Rattle.timeline.specs.Order.{nothing, nth};
 ghost use Rattle.patterns.specs.Kept.{kept-step, kept-count, kept-pattern};
 ghost use Rattle.rows.specs.Held.{held, how-many, Standing, Along};
@@ -131,8 +131,8 @@ impl Search<'_> {
         ensures passed { λ r. ⌜ ((upto i : ℕ) → row-lo (chosen (now (at .entry)) depth) ≤ i → i < r → Barren (space (held (now (self .entry .held .front)) (now (self .entry .held .back))) (kept-pattern (now (self .entry .kept .words))) upto) (length (kept-pattern (now (self .entry .kept .words)) .steps) - 1 - depth) (chosen (now (at .entry)) depth) i) ⌝ }
     {
         if depth == 1 {
-            return self.held
-                .first_in_reach(last.time, self.kept.within(), at[0]);
+            let within = self.kept.within();
+            return self.held.first_in_reach(last.time, within, at[0]);
         }
         at[depth - 1] + 1
     }

@@ -4,6 +4,8 @@ mod laws;
 mod levels;
 mod search;
 mod searched;
+#[cfg(test)]
+mod tests;
 
 pub use laws::all_that_fit;
 pub use laws::ends_held;

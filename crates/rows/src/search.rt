@@ -8,7 +8,7 @@ ghost use lib.ListN.{length, getD};
 ghost use Rattle.timeline.specs.Lists.{every, run};
 ghost use Rattle.timeline.specs.Ring.{decode};
 ghost use Rattle.patterns.specs.Kept.{kept-pattern};
-ghost use Rattle.rows.specs.Held.{held, how-many};
+ghost use Rattle.rows.specs.Held.{held};
 ghost use Rattle.rows.specs.Finding.{to-come, number-at, six-of, behind, found-first, placed, next-found};
 use crate::held::Held;
 use crate::levels::LEVELS;

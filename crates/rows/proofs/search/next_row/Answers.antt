@@ -1,4 +1,4 @@
-use mathlib.Core.Path.{_≡_, sym, _∙_}
+use mathlib.Core.Path.{sym, _∙_}
 use Rattle.patterns.specs.Kept.{kept-pattern}
 use Rattle.rows.specs.Held.{held}
 use Rattle.rows.proofs.FirstRow.{placed-is, next-none, next-some}

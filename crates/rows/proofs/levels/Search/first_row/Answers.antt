@@ -1,3 +1,4 @@
+use native.Mathlib.Omega.{arith}
 use lib.ListN.{length}
 use borrow.Author.Needs.{needs}
 use mathlib.Core.Path.{_≡_}
@@ -14,22 +15,22 @@ moves-holds c =
     start (c .args .self .held .front .now) (c .args .self .held .back .now) (c .args .self .kept .words .now) (c .args .upto) (c .args .cursor) (c .pre) (c .steps-steps .result) (c .steps-steps .ensures) (c .events-at-row .result) l k (c .events-at-row .ensures)
 
 pub returns-then-depth-eq0 : need.returns-then-depth-eq0
-returns-then-depth-eq0 c = over (c .args .self .held .front .now) (c .args .self .held .back .now) (c .args .self .kept .words .now) (c .args .upto) (c .args .cursor) (c .pre) (c .steps-steps .result) (c .steps-steps .ensures) (c .moves .at) (c .moves .row) (c .moves .depth) (c .moves .inv) (c .level-end-end .result) (c .level-end-end .ensures) (c .if-depth-eq0 .taken) (c .if-at-depth .taken)
+returns-then-depth-eq0 c = over (c .args .self .held .front .now) (c .args .self .held .back .now) (c .args .self .kept .words .now) (c .args .upto) (c .args .cursor) (c .pre) (c .steps-steps .result) (c .steps-steps .ensures) (c .moves .at) (c .moves .row) (c .moves .depth) (c .moves .inv) (c .level-end-end .result) (c .level-end-end .ensures) (c .if-depth-eq0 .taken) (omega (arith, c .if-at-depth .taken))
 
 pub moves-again-then-at-depth : need.moves-again-then-at-depth
-moves-again-then-at-depth c = goes-back (c .args .self .held .front .now) (c .args .self .held .back .now) (c .args .self .kept .words .now) (c .args .upto) (c .args .cursor) (c .pre) (c .steps-steps .result) (c .steps-steps .ensures) (c .moves .at) (c .moves .row) (c .moves .depth) (c .moves .inv) (c .level-end-end .result) (c .level-end-end .ensures) (c .if-depth-eq0 .left) (c .if-at-depth .taken) .0
+moves-again-then-at-depth c = goes-back (c .args .self .held .front .now) (c .args .self .held .back .now) (c .args .self .kept .words .now) (c .args .upto) (c .args .cursor) (c .pre) (c .steps-steps .result) (c .steps-steps .ensures) (c .moves .at) (c .moves .row) (c .moves .depth) (c .moves .inv) (c .level-end-end .result) (c .level-end-end .ensures) (c .if-depth-eq0 .left) (omega (arith, c .if-at-depth .taken)) .0
 
 pub moves-less-then-at-depth : need.moves-less-then-at-depth
-moves-less-then-at-depth c = goes-back (c .args .self .held .front .now) (c .args .self .held .back .now) (c .args .self .kept .words .now) (c .args .upto) (c .args .cursor) (c .pre) (c .steps-steps .result) (c .steps-steps .ensures) (c .moves .at) (c .moves .row) (c .moves .depth) (c .moves .inv) (c .level-end-end .result) (c .level-end-end .ensures) (c .if-depth-eq0 .left) (c .if-at-depth .taken) .1
+moves-less-then-at-depth c = goes-back (c .args .self .held .front .now) (c .args .self .held .back .now) (c .args .self .kept .words .now) (c .args .upto) (c .args .cursor) (c .pre) (c .steps-steps .result) (c .steps-steps .ensures) (c .moves .at) (c .moves .row) (c .moves .depth) (c .moves .inv) (c .level-end-end .result) (c .level-end-end .ensures) (c .if-depth-eq0 .left) (omega (arith, c .if-at-depth .taken)) .1
 
 pub next-candidate-p-requires : need.next-candidate-p-requires
-next-candidate-p-requires c κs = candidate-ready (c .args .self .held .front .now) (c .args .self .held .back .now) (c .args .self .kept .words .now) (c .args .upto) (c .args .cursor) (c .pre) (c .steps-steps .result) (c .steps-steps .ensures) (c .moves .at) (c .moves .row) (c .moves .depth) (c .moves .inv) (c .level-end-end .result) (c .level-end-end .ensures) (c .if-at-depth .left)
+next-candidate-p-requires c κs = candidate-ready (c .args .self .held .front .now) (c .args .self .held .back .now) (c .args .self .kept .words .now) (c .args .upto) (c .args .cursor) (c .pre) (c .steps-steps .result) (c .steps-steps .ensures) (c .moves .at) (c .moves .row) (c .moves .depth) (c .moves .inv) (c .level-end-end .result) (c .level-end-end .ensures) (omega (arith, c .if-at-depth .left))
 
 pub moves-again-then-p-end : need.moves-again-then-p-end
-moves-again-then-p-end c = goes-far (c .args .self .held .front .now) (c .args .self .held .back .now) (c .args .self .kept .words .now) (c .args .upto) (c .args .cursor) (c .pre) (c .steps-steps .result) (c .steps-steps .ensures) (c .moves .at) (c .moves .row) (c .moves .depth) (c .moves .inv) (c .level-end-end .result) (c .level-end-end .ensures) (c .next-candidate-p .result) (c .next-candidate-p .ensures .bounds) (c .next-candidate-p .ensures .passed) (c .if-at-depth .left) (c .if-p-end .taken) .0
+moves-again-then-p-end c = goes-far (c .args .self .held .front .now) (c .args .self .held .back .now) (c .args .self .kept .words .now) (c .args .upto) (c .args .cursor) (c .pre) (c .steps-steps .result) (c .steps-steps .ensures) (c .moves .at) (c .moves .row) (c .moves .depth) (c .moves .inv) (c .level-end-end .result) (c .level-end-end .ensures) (c .next-candidate-p .result) (c .next-candidate-p .ensures .bounds) (c .next-candidate-p .ensures .passed) (omega (arith, c .if-at-depth .left)) (c .if-p-end .taken) .0
 
 pub moves-less-then-p-end : need.moves-less-then-p-end
-moves-less-then-p-end c = goes-far (c .args .self .held .front .now) (c .args .self .held .back .now) (c .args .self .kept .words .now) (c .args .upto) (c .args .cursor) (c .pre) (c .steps-steps .result) (c .steps-steps .ensures) (c .moves .at) (c .moves .row) (c .moves .depth) (c .moves .inv) (c .level-end-end .result) (c .level-end-end .ensures) (c .next-candidate-p .result) (c .next-candidate-p .ensures .bounds) (c .next-candidate-p .ensures .passed) (c .if-at-depth .left) (c .if-p-end .taken) .1
+moves-less-then-p-end c = goes-far (c .args .self .held .front .now) (c .args .self .held .back .now) (c .args .self .kept .words .now) (c .args .upto) (c .args .cursor) (c .pre) (c .steps-steps .result) (c .steps-steps .ensures) (c .moves .at) (c .moves .row) (c .moves .depth) (c .moves .inv) (c .level-end-end .result) (c .level-end-end .ensures) (c .next-candidate-p .result) (c .next-candidate-p .ensures .bounds) (c .next-candidate-p .ensures .passed) (omega (arith, c .if-at-depth .left)) (c .if-p-end .taken) .1
 
 pub get-requires : need.get-requires
 get-requires c κs = get-ready (c .args .self .held .front .now) (c .args .self .held .back .now) (c .args .self .kept .words .now) (c .args .upto) (c .args .cursor) (c .pre) (c .steps-steps .result) (c .steps-steps .ensures) (c .moves .at) (c .moves .row) (c .moves .depth) (c .moves .inv) (c .level-end-end .result) (c .level-end-end .ensures) (c .next-candidate-p .result) (c .next-candidate-p .ensures .bounds) (c .next-candidate-p .ensures .passed) (c .if-p-end .left)

@@ -1,5 +1,5 @@
 use mathlib.Core.Path.{_≡_, refl, sym, subst, _∙_}
-use mathlib.Core.Bool.{Bool, true, false}
+use mathlib.Core.Bool.{true, false}
 use Rattle.timeline.specs.declared.events.Event.{Event}
 use Rattle.patterns.specs.Kept.{kept-step}
 use Rattle.rows.specs.Held.{held}

@@ -1,13 +1,12 @@
-use mathlib.Core.Path.{_≡_, refl, sym, ap, ap₂, _∙_}
-use Prim.Native.Nat.{_+_, _-_, _<_, _≤_}
+use mathlib.Core.Path.{sym, ap, ap₂, _∙_}
+use Prim.Native.Nat.{_+_, _-_}
 use native.Mathlib.Omega.{arith}
 use lib.Dec.{leb}
-use lib.ListN.{getD}
 use Rattle.timeline.specs.Order.{nth}
 use Rattle.patterns.specs.Kept.{kept-pattern}
 use Rattle.patterns.proofs.Steps.{steps-long}
 use Rattle.rows.specs.Held.{held}
-use Rattle.rows.proofs.Pruning.{Starts, starts-first, starts-next}
+use Rattle.rows.proofs.Pruning.{starts-first, starts-next}
 use Rattle.rows.proofs.levels.Search.level_start.Needs as need
 
 pub returns-then-depth-eq1 : need.returns-then-depth-eq1
@@ -16,7 +15,7 @@ returns-then-depth-eq1 c =
     let s = starts-first h (kept-pattern (c .args .self .kept .words .now)) (c .args .at .now) (c .args .depth) (c .first-in-reach .result) (c .if-depth-eq1 .taken)
     (omega (arith, c .pre .0 .1 .0, steps-long (c .args .self .kept .words .now))) (c .first-in-reach .ensures .bounds)
     (λ i l.
-    ap₂ (λ t w. leb t ((nth h i .time) + w)) (sym (ap (λ e. e .time) (c .pre .0 .1 .1))) (sym (c .within .ensures)) ∙ c .first-in-reach .ensures .passed i l) in
+    ap₂ (λ t w. leb t ((nth h i .time) + w)) (sym (ap (λ e. e .time) (c .pre .0 .1 .1))) (sym (c .within-within .ensures)) ∙ c .first-in-reach .ensures .passed i l) in
     record { bounds = s .0; passed = s .1 }
 
 pub returns : need.returns

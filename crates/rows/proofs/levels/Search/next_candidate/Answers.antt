@@ -1,5 +1,5 @@
-use mathlib.Core.Path.{_≡_, ap, _∙_}
-use Rattle.patterns.specs.Kept.{kept-step, kept-count}
+use mathlib.Core.Path.{ap, _∙_}
+use Rattle.patterns.specs.Kept.{kept-step}
 use Rattle.rows.specs.Held.{held}
 use Rattle.rows.specs.Finding.{level-step}
 use Rattle.rows.proofs.Pruning.{kept-kind-not}
