@@ -1,7 +1,11 @@
 pub mod Runs
 pub mod Steps
+pub mod Back
+pub mod Words
 mod Tests
 mod Laying
 mod Parts
 mod May
 pub mod Wholes
+mod Wholes
+mod Each

@@ -11,9 +11,9 @@ use Rattle.std.specs.declared.option.Option.{Option}
 use Rattle.std.specs.declared.option.Option.the-variants.{Some, None}
 use Rattle.std.proofs.shelf.Tests.{lt-ltb}
 use Rattle.std.proofs.shelf.Ways.{tells}
-use Rattle.patterns.specs.Patterns.{Test, Never, Step, Pattern}
+use Rattle.patterns.specs.Patterns.{Test, Never, Step}
 use Rattle.patterns.specs.Limits.{some-tests, a-step}
-use Rattle.patterns.specs.Kept.{padded, tests-cells, never-cells, nevers-cells, step-cells, pattern-cells}
+use Rattle.patterns.specs.Kept.{padded, tests-cells, never-cells, nevers-cells, step-cells}
 use Rattle.patterns.specs.Reading.{tests-at, tests-end, never-at, nevers-at, nevers-end, step-at, a-never, some-nevers, Laid}
 use Rattle.patterns.proofs.Laying.{sets-append, sets-cons, padded-long}
 use Rattle.patterns.proofs.May.{length-test}
@@ -39,10 +39,6 @@ length-nevers-cells vs = ap suc (padded-long 22 2 never-cells length-never-cells
 pub length-step-cells : (s : Step) → length (step-cells s) ≡ 67
 unfolding step-cells
 length-step-cells s = ap suc (length-append (tests-cells (s .tests)) (nevers-cells (s .never)) ∙ omega (arith, length-tests-cells (s .tests), length-nevers-cells (s .never)))
-
-pub pattern-cells-long : (p : Pattern) → length (pattern-cells p) ≡ 405
-unfolding pattern-cells
-pattern-cells-long p = ap (λ n. suc (suc (suc n))) (padded-long 67 6 step-cells length-step-cells 6 (p .steps))
 
 module _ (row m : List ℕ) (n to pos k : ℕ) (e : k ≡ getD row pos 0) where
   pub never-may : k < 65536 → some-tests n (tests-at row (pos + 1)) ≡ a-never n (never-at row pos)

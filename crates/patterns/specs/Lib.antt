@@ -5,3 +5,4 @@ pub mod Kept
 pub mod Codes
 pub mod Named
 pub mod Reading
+pub mod Laws

@@ -14,8 +14,8 @@ use Rattle.timeline.specs.Lists.{pick, every}
 use Rattle.patterns.specs.Patterns.{Test, Never, Step}
 use Rattle.patterns.specs.Limits.{some-tests, a-pattern}
 use Rattle.patterns.specs.Numbers.{tests-in, nevers-in, nevers-long, pattern-in}
-use Rattle.patterns.specs.Kept.{pattern-cells}
-use Rattle.patterns.specs.declared.reading.Comparison.{Comparison}
+use Rattle.patterns.specs.Kept.{pattern-cells, kept-pattern}
+use Rattle.patterns.specs.declared.comparing.Comparison.{Comparison}
 use Rattle.patterns.specs.declared.keeping.Refusal.{Refusal}
 use Rattle.patterns.specs.declared.keeping.Refusal.the-variants.{NoPattern, NotAsLong}
 
@@ -82,6 +82,7 @@ Laid-all ok whole after true = (ok ≡ true) × (after ≡ whole)
 
 -- what keeping a row in a lent slice answers, and what the slice holds after it
 abbrev pub Keeps : List ℕ → List ℕ → List ℕ → Result (Unit {0}) Refusal → Type 0
-Keeps row before after (Ok done) = (length before ≡ 405) × (a-pattern (pattern-in row) ≡ true) × (after ≡ pattern-cells (pattern-in row))
+Keeps row before after (Ok done) =
+    (length before ≡ 405) × (a-pattern (pattern-in row) ≡ true) × (after ≡ pattern-cells (pattern-in row)) × (kept-pattern after ≡ pattern-in row)
 Keeps row before after (Err NoPattern) = (length before ≡ 405) × (a-pattern (pattern-in row) ≡ false) × (after ≡ before)
 Keeps row before after (Err NotAsLong) = (length before ≡ 405 → ⊥) × (after ≡ before)

@@ -1,6 +1,6 @@
 // A pattern kept: from a row of numbers into a lent slice.
 ghost use Rattle.patterns.specs.Reading.{Keeps};
-use crate::layout::PATTERN;
+use crate::layout::PATTERN_WORDS;
 use crate::reading::lay_pattern;
 
 // Why a row is not kept.
@@ -16,10 +16,10 @@ pub enum Refusal {
 pub fn keep(row: &[u64], kept: &mut [u64]) -> Result<(), Refusal>
     ensures { λ r. ⌜ Keeps (now (row .entry)) (now (kept .entry)) (now (kept .exit)) r ⌝ }
 {
-    if kept.len() != PATTERN {
+    if kept.len() != PATTERN_WORDS {
         return Err(Refusal::NotAsLong);
     }
-    let mut words = [0; PATTERN];
+    let mut words = [0; PATTERN_WORDS];
     if !lay_pattern(&mut words, row) {
         return Err(Refusal::NoPattern);
     }

@@ -1,43 +1,29 @@
 // Tests and nevers of a kept pattern, tried of an event. Words are read as they stand, so any 405 will do.
 ghost use mathlib.Core.Path.{_≡_};
 ghost use mathlib.Core.Bool.{not};
-ghost use Prim.Native.Nat.{ℕ, _+_, _*_, _≤_, _<_};
-ghost use lib.Dec.{eqb, ltb};
+ghost use Prim.Native.Nat.{_+_, _≤_};
 ghost use lib.ListN.{getD};
 ghost use Rattle.timeline.specs.Lists.{every, any, none-of};
 ghost use Rattle.timeline.specs.Order.{nth};
 ghost use Rattle.patterns.specs.Patterns.{other-side, holds as holds-of, fits-step};
-ghost use Rattle.patterns.specs.Named.{step-names, kind-named};
-ghost use Rattle.patterns.specs.Kept.{at-most, kept-test, kept-tests, step-place, kept-step, kept-count, kept-pattern};
+ghost use Rattle.patterns.specs.Kept.{at-most, kept-test, kept-tests, step-place, kept-step};
 use crate::fields::Field;
 use crate::fields::Sign;
 use crate::kept::Kept;
+use crate::kept::at_most;
+use crate::kept::has_room;
+use crate::layout::BACK_AT;
 use crate::layout::MOST_NEVERS;
-use crate::layout::MOST_STEPS;
 use crate::layout::MOST_TESTS;
-use crate::layout::NEVER;
-use crate::layout::NEVERS;
-use crate::layout::PATTERN;
-use crate::layout::STEP;
-use crate::layout::STEPS;
-use crate::layout::TEST;
+use crate::layout::NEVER_WORDS;
+use crate::layout::NEVERS_AT;
+use crate::layout::OTHER_AT;
+use crate::layout::SIGN_AT;
+use crate::layout::STEP_AT;
+use crate::layout::STEP_WORDS;
+use crate::layout::STEPS_AT;
+use crate::layout::TEST_WORDS;
 use timeline::Event;
-
-// A count, but no more than the most there can be.
-fn at_most(most: usize, count: u64) -> usize
-    ensures { λ r. ⌜ r ≡ at-most most count ⌝ }
-{
-    let count = count as usize;
-    if count <= most { count } else { most }
-}
-
-// Whether there is room for a step; where there is none, all words are read as 0.
-fn has_room(words: &[u64; PATTERN], step: usize) -> bool
-    ensures test { λ r. ⌜ r ≡ ltb step 6 ⌝ }
-    ensures past { λ _. ⌜ ((n : ℕ) → 6 ≤ step → step-place step ≤ n → getD (now (words .entry)) n 0 ≡ 0) ⌝ }
-{
-    step < MOST_STEPS
-}
 
 // The event of an earlier step, one of zeros where there is none.
 fn earlier_event(earlier: &[Event], step: u64) -> Event
@@ -57,46 +43,16 @@ fn earlier_event(earlier: &[Event], step: u64) -> Event
 }
 
 impl Kept<'_> {
-    pub fn within(self) -> u64
-        ensures { λ r. ⌜ r ≡ kept-pattern (now (self .entry .words)) .within ⌝ }
-    {
-        self.words[0]
-    }
-
-    pub fn late(self) -> u64
-        ensures { λ r. ⌜ r ≡ kept-pattern (now (self .entry .words)) .late ⌝ }
-    {
-        self.words[1]
-    }
-
-    // How many steps: six at most.
-    pub fn steps(self) -> usize
-        ensures { λ r. ⌜ r ≡ kept-count (now (self .entry .words)) ⌝ }
-    {
-        at_most(MOST_STEPS, self.words[2])
-    }
-
-    // The kind of a step, and 0 where no step can be.
-    pub fn kind_of(self, step: usize) -> u64
-        ensures { λ r. ⌜ r ≡ kept-step (now (self .entry .words)) step .kind ⌝ }
-    {
-        if has_room(self.words, step) {
-            self.words[STEPS + STEP * step]
-        } else {
-            0
-        }
-    }
-
     // What the test at a place compares with.
     fn other_side(self, at: usize, earlier: &[Event]) -> u64
         requires { ⌜ at + 5 ≤ 405 ⌝ }
         ensures { λ r. ⌜ r ≡ other-side (now (earlier .entry)) (kept-test (now (self .entry .words)) at .step) (kept-test (now (self .entry .words)) at .other) ⌝ }
     {
-        let other = self.words[at + 4];
-        if self.words[at + 2] == 0 {
+        let other = self.words[at + OTHER_AT];
+        if self.words[at + BACK_AT] == 0 {
             return other;
         }
-        Field::numbered(other).of(earlier_event(earlier, self.words[at + 3]))
+        Field::numbered(other).of(earlier_event(earlier, self.words[at + STEP_AT]))
     }
 
     // Whether the test at a place holds.
@@ -106,7 +62,7 @@ impl Kept<'_> {
     {
         let own = Field::numbered(self.words[at]).of(e);
         let other = self.other_side(at, earlier);
-        Sign::numbered(self.words[at + 1]).holds(own, other)
+        Sign::numbered(self.words[at + SIGN_AT]).holds(own, other)
     }
 
     // Whether all tests at a place hold.
@@ -116,7 +72,7 @@ impl Kept<'_> {
     {
         let many = at_most(MOST_TESTS, self.words[at]);
         for i in 0..many {
-            if !self.test_holds(at + 1 + TEST * i, earlier, e) {
+            if !self.test_holds(at + 1 + TEST_WORDS * i, earlier, e) {
                 return false;
             }
         }
@@ -138,18 +94,21 @@ impl Kept<'_> {
         if !has_room(self.words, step) {
             return e.kind == 0;
         }
-        self.passes(STEPS + STEP * step, earlier, e)
+        self.passes(STEPS_AT + STEP_WORDS * step, earlier, e)
     }
 
     // How many nevers a step has: two at most.
-    fn nevers(self, step: usize) -> usize
+    pub(crate) fn nevers(self, step: usize) -> usize
         ensures many { λ r. ⌜ r ≡ at-most 2 (getD (now (self .entry .words)) (step-place step + 22) 0) ⌝ }
         ensures none { λ r. ⌜ (6 ≤ step → r ≡ 0) ⌝ }
     {
         if !has_room(self.words, step) {
             return 0;
         }
-        at_most(MOST_NEVERS, self.words[STEPS + STEP * step + NEVERS])
+        at_most(
+            MOST_NEVERS,
+            self.words[STEPS_AT + STEP_WORDS * step + NEVERS_AT],
+        )
     }
 
     // Whether a step has nevers.
@@ -165,40 +124,11 @@ impl Kept<'_> {
     {
         let many = self.nevers(step);
         for i in 0..many {
-            if self.passes(STEPS + STEP * step + NEVERS + 1 + NEVER * i, earlier, e) {
-                return true;
-            }
-        }
-        false
-    }
-
-    // Whether a never of the step is of a kind.
-    fn has_never_of(self, step: usize, kind: u64) -> bool
-        ensures { λ r. ⌜ r ≡ any (λ n. eqb (n .kind) kind) (kept-step (now (self .entry .words)) step .never) ⌝ }
-    {
-        let many = self.nevers(step);
-        for i in 0..many {
-            if self.words[STEPS + STEP * step + NEVERS + 1 + NEVER * i] == kind {
-                return true;
-            }
-        }
-        false
-    }
-
-    // Whether a step, or a never of it, is of a kind.
-    fn step_names(self, step: usize, kind: u64) -> bool
-        ensures { λ r. ⌜ r ≡ step-names kind (kept-step (now (self .entry .words)) step) ⌝ }
-    {
-        self.kind_of(step) == kind || self.has_never_of(step, kind)
-    }
-
-    // Whether some step or never is of a kind.
-    pub fn is_named(self, kind: u64) -> bool
-        ensures { λ r. ⌜ r ≡ kind-named (kept-pattern (now (self .entry .words))) kind ⌝ }
-    {
-        let many = self.steps();
-        for step in 0..many {
-            if self.step_names(step, kind) {
+            if self.passes(
+                STEPS_AT + STEP_WORDS * step + NEVERS_AT + 1 + NEVER_WORDS * i,
+                earlier,
+                e,
+            ) {
                 return true;
             }
         }

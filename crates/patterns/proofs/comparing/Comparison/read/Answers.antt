@@ -2,7 +2,7 @@ use mathlib.Core.Path.{_≡_, refl, sym, _∙_}
 use Prim.Native.Nat.{_+_}
 use lib.ListN.{getD}
 use Rattle.patterns.proofs.Tests.{take-one}
-use Rattle.patterns.proofs.reading.Comparison.read.Needs as need
+use Rattle.patterns.proofs.comparing.Comparison.read.Needs as need
 
 pub returns : need.returns
 returns c =
