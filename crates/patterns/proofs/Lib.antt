@@ -7,5 +7,4 @@ mod Laying
 mod Parts
 mod May
 pub mod Wholes
-mod Wholes
 mod Each
