@@ -1,5 +1,9 @@
 pub mod Order
 pub mod Rows
+mod Eaches
+mod Passing
+mod Inserted
+mod Telling
 mod Reach
 mod Same
 mod Held

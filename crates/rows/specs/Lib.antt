@@ -7,3 +7,4 @@ pub mod Finding
 pub mod SearchLaws
 pub mod Fitting
 pub mod Sorted
+pub mod Finder

@@ -1,7 +1,10 @@
 // Rows of events that fit a pattern: what they are, and how they are found.
+mod extension;
+mod insertion;
 mod laws;
 mod search;
 mod searched;
+mod told;
 
 pub use laws::all_that_fit;
 pub use laws::ends_held;
