@@ -1,11 +1,12 @@
 -- A function of each element: by place, and of a list with one inserted.
 use mathlib.Core.Path.{_≡_, refl, sym, ap, ap₂, _∙_}
 use mathlib.Core.List.{List, [], _∷_, _++_, map}
-use Prim.Native.Nat.{ℕ, _<_}
+use Prim.Native.Nat.{ℕ, _+_, _≤_, _<_}
 use lib.ListN.{length, getD, take, drop}
 use Rattle.std.specs.Holes.{inserted}
-use Rattle.std.proofs.shelf.Lists.{length-map, map-append, getD-map, getD-read, take-map, drop-map}
+use Rattle.std.proofs.shelf.Lists.{length-map, map-append, getD-map, take-map, drop-map, take-more, take-all}
 use Rattle.timeline.specs.Lists.{each}
+use Rattle.timeline.proofs.Each.{each-append}
 
 each-is : {A B : Type 0} (f : A → B) (xs : List A) → each f xs ≡ map f xs
 unfolding each
@@ -26,3 +27,12 @@ module _ {A B : Type 0} (f : A → B) (xs : List A) where
       ∙ map-append f (take i xs) (x ∷ drop i xs)
       ∙ ap₂ (λ ys zs. ys ++ f x ∷ zs) (sym (take-map f i xs)) (sym (drop-map f i xs))
       ∙ ap (λ ys. inserted ys i (f x)) (sym (each-is f xs))
+
+  -- one element more
+  pub each-more : (i : ℕ) (x d : A) → i < length xs → x ≡ getD xs i d → each f (take i xs) ++ f x ∷ [] ≡ each f (take (i + 1) xs)
+  unfolding each
+  each-more i x d l e =
+      sym (ap (each f) (take-more xs i d l ∙ ap (λ y. take i xs ++ y ∷ []) (sym e)) ∙ each-append f (take i xs) (x ∷ []))
+
+  pub each-over : (i : ℕ) → length xs ≤ i → each f (take i xs) ≡ each f xs
+  each-over i l = ap (each f) (take-all i xs l)

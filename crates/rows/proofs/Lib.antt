@@ -2,6 +2,7 @@ pub mod Order
 pub mod Rows
 mod Eaches
 mod Passing
+mod Flats
 mod Inserted
 mod Telling
 mod Reach

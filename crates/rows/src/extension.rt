@@ -1,10 +1,18 @@
 // Rows so far, and how they go on by one step.
 ghost use mathlib.Core.Path.{_≡_};
+ghost use mathlib.Core.Bool.{true};
+ghost use mathlib.Core.List.{[], _∷_, _++_};
+ghost use Rattle.std.specs.Of.Vec.{vec-items};
+ghost use Rattle.std.specs.Results.{isOk};
+ghost use Rattle.std.specs.Vec.{made};
+ghost use Rattle.timeline.specs.Lists.{flat};
 ghost use Rattle.patterns.specs.Kept.{kept-step, kept-pattern};
 ghost use Rattle.rows.specs.Rows.{clear, goes-on};
-ghost use Rattle.rows.specs.Finder.{follows, disturbs};
+ghost use Rattle.rows.specs.Finder.{lists, follows, disturbs, longer};
 use crate::told::last_of;
 use patterns::Kept;
+use std::alloc::AllocError;
+use std::alloc::Global;
 use timeline::Event;
 
 // Whether an event is behind a row's last one, and within the window from its first.
@@ -46,4 +54,49 @@ fn may_go_on(pattern: Kept<'_>, step: usize, all: &[Event], row: &[Event], next:
     pattern.fits(step, row, next)
         && is_behind(pattern.within(), row, next)
         && is_clear(pattern, step, all, row, next)
+}
+
+// A row and one event more.
+fn with_next(heap: Global, row: &[Event], next: Event) -> Result<Vec<Event>, AllocError>
+    ensures { λ r. ⌜ made r (λ v. vec-items v ≡ now (row .entry) ++ next ∷ []) ⌝ }
+{
+    let mut long = Vec::from_slice(heap, row)?;
+    long.push(next)?;
+    Ok(long)
+}
+
+// All rows that a row goes on to by a step, put behind others.
+fn go_on(
+    heap: Global,
+    pattern: Kept<'_>,
+    step: usize,
+    all: &[Event],
+    row: &[Event],
+    rows: &mut Vec<Vec<Event>>,
+) -> Result<(), AllocError>
+    ensures { λ r. ⌜ (isOk r ≡ true → lists (vec-items (now (rows .exit))) ≡ lists (vec-items (now (rows .entry))) ++ longer (now (all .entry)) (kept-pattern (now (pattern .entry .words)) .within) (kept-step (now (pattern .entry .words)) step) (now (row .entry))) ⌝ }
+{
+    for e in all {
+        if may_go_on(pattern, step, all, row, *e) {
+            rows.push(with_next(heap, row, *e)?)?;
+        }
+    }
+    Ok(())
+}
+
+// All rows that some rows go on to by a step.
+pub(crate) fn all_go_on(
+    heap: Global,
+    pattern: Kept<'_>,
+    step: usize,
+    all: &[Event],
+    rows: &[Vec<Event>],
+) -> Result<Vec<Vec<Event>>, AllocError>
+    ensures { λ r. ⌜ made r (λ v. lists (vec-items v) ≡ flat (longer (now (all .entry)) (kept-pattern (now (pattern .entry .words)) .within) (kept-step (now (pattern .entry .words)) step)) (lists (now (rows .entry)))) ⌝ }
+{
+    let mut long = Vec::new(heap);
+    for row in rows {
+        go_on(heap, pattern, step, all, row, &mut long)?;
+    }
+    Ok(long)
 }

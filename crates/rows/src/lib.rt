@@ -1,11 +1,14 @@
 // Rows of events that fit a pattern: what they are, and how they are found.
 mod extension;
+mod finder;
 mod insertion;
 mod laws;
 mod search;
 mod searched;
 mod told;
 
+pub use finder::FindError;
+pub use finder::find_all;
 pub use laws::all_that_fit;
 pub use laws::ends_held;
 pub use laws::grows;
