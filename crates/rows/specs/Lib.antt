@@ -8,3 +8,4 @@ pub mod SearchLaws
 pub mod Fitting
 pub mod Sorted
 pub mod Finder
+pub mod Night
