@@ -3,6 +3,7 @@ pub mod Rows
 mod Eaches
 mod Passing
 mod Flats
+mod Counting
 mod Inserted
 mod Telling
 mod Reach

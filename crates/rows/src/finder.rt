@@ -7,12 +7,14 @@ ghost use Rattle.std.specs.Vec.{made};
 ghost use Rattle.timeline.specs.Lists.{each};
 ghost use Rattle.patterns.specs.Kept.{kept-pattern};
 ghost use Rattle.rows.specs.Rows.{rows as rows-of, all-rows};
-ghost use Rattle.rows.specs.Known.{numbers as numbers-of};
+ghost use Rattle.rows.specs.Known.{numbers as numbers-of, counted as counted-of};
+ghost use Rattle.patterns.specs.Numbers.{pattern-in};
 ghost use Rattle.rows.specs.Finder.{lists, Finds};
 ghost use Rattle.rows.specs.declared.finder.FindError.the-variants.{Memory};
 use crate::extension::all_go_on;
 use crate::insertion::rows_in_order;
 use crate::insertion::sorted;
+use crate::lateness::counted;
 use patterns::Kept;
 use patterns::PATTERN_WORDS;
 use patterns::keep;
@@ -89,5 +91,19 @@ pub fn find_all(heap: Global, row: &[u64], events: &[Event]) -> Result<Vec<Vec<u
         return Err(FindError::NoPattern);
     };
     let rows = find_kept(heap, Kept { words: &words }, events)?;
+    Ok(rows)
+}
+
+// The same among those of some events, as they came, that count: all that aren't too late for the pattern. Their numbers are from 0.
+pub fn find_counted(heap: Global, row: &[u64], events: &[Event]) -> Result<Vec<Vec<u64>>, FindError>
+    ensures { λ r. ⌜ Finds (now (row .entry)) (counted-of (pattern-in (now (row .entry))) (now (events .entry))) r ⌝ }
+{
+    let mut words = [0; PATTERN_WORDS];
+    let Ok(()) = keep(row, &mut words) else {
+        return Err(FindError::NoPattern);
+    };
+    let pattern = Kept { words: &words };
+    let counted = counted(heap, pattern.late(), events)?;
+    let rows = find_kept(heap, pattern, &counted)?;
     Ok(rows)
 }

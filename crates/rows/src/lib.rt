@@ -2,6 +2,7 @@
 mod extension;
 mod finder;
 mod insertion;
+mod lateness;
 mod laws;
 mod night;
 mod search;
@@ -10,6 +11,8 @@ mod told;
 
 pub use finder::FindError;
 pub use finder::find_all;
+pub use finder::find_counted;
+pub use lateness::counted;
 pub use laws::all_that_fit;
 pub use laws::ends_held;
 pub use laws::grows;
