@@ -7,4 +7,5 @@ mod Laying
 mod Parts
 mod May
 mod Wholes
+pub mod Wholes
 mod Each
