@@ -17,3 +17,5 @@ mod Whole
 mod Doing
 mod Saying
 mod Entering
+mod Stories
+mod Telling

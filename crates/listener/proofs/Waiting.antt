@@ -77,7 +77,7 @@ module _ (p : Pattern) (kept : Kept-as (pattern-cells p) p) where
       → own .step (waiting-memory p n es s) (said f) ≡ heard (waiting-head p n es s) cells (ring-at es s) (with-number n f)
   heard-is n es s f ok e = comes-waiting (waiting-head p n es s) cells (ring-at es s) ok (f .time) (f .kind) (f .who) (f .value) e
 
-  too-late-waits :
+  pub too-late-waits :
       (m : List ℕ) (n : ℕ) (es : List Event) (f : Event) → n < most → Waits p m n es → an-event f ≡ true → too-late p es f ≡ true
       → Tells-then own (λ m₁. Waits p m₁ (suc n) es) late (own .step m (said f)) []
   too-late-waits m n es f l w e q =
@@ -112,13 +112,13 @@ module _ (p : Pattern) (kept : Kept-as (pattern-cells p) p) where
     abbrev more : List Event
     more = es ++ with-number n f ∷ []
 
-    abbrev room-test : Bool
+    abbrev pub room-test : Bool
     room-test = ltb room (h .len - stale-with p h (events now-held s (h .len)) (with-number n f) + pick (named p (with-number n f)) 1 0)
 
     ok : Sound h cells now-held
     ok = sound n es s (omega arith) (w .round) (w .early) (w .few)
 
-    room-is : room-test ≡ ltb room (held p more)
+    pub room-is : room-test ≡ ltb room (held p more)
     room-is =
         ap (λ (k : ℕ). ltb room (length (held-list p es) - k + pick (named p (with-number n f)) 1 0)) (stale-same p n es f num q s (w .few))
         ∙ ap (ltb room) (held-is p n es f num q)
@@ -126,7 +126,7 @@ module _ (p : Pattern) (kept : Kept-as (pattern-cells p) p) where
     came-is : own .step m (said f) ≡ heard h cells now-held (with-number n f)
     came-is = ap (λ (x : List ℕ). own .step x (said f)) (w .whole) ∙ heard-is n es s f ok e
 
-    full : room-test ≡ true → Tells-then own (λ m₁. Unit) (refused 8) (own .step m (said f)) [] × (room < held p more)
+    pub full : room-test ≡ true → Tells-then own (λ m₁. Unit) (refused 8) (own .step m (said f)) [] × (room < held p more)
     full r = (
       (ap (λ (st : Stepped). st .act) (came-is ∙ heard-full p cells (kept .means) h now-held (with-number n f) q r), tt),
       ltb-true room (held p more) (sym room-is ∙ r),
@@ -166,7 +166,7 @@ module _ (p : Pattern) (kept : Kept-as (pattern-cells p) p) where
         came-is ∙ heard-counts p cells (kept .means) h now-held (with-number n f) q r
         ∙ ap₂ (λ (x : Head) (y : List ℕ). tell-from Telling x cells y (begin-at (h .known))) (telling-is p n es f num q s (w .few)) (ring-is p n es f num q s (w .few))
 
-    counts : room-test ≡ false → Tells-then own (λ m₁. Waits p m₁ (suc n) more) waits (own .step m (said f)) (newly p es more)
+    pub counts : room-test ≡ false → Tells-then own (λ m₁. Waits p m₁ (suc n) more) waits (own .step m (said f)) (newly p es more)
     counts r =
         let D : List ℕ → Type 0 = λ m₁. Waits p m₁ (suc n) more in
         let back = listed-back p n es f num q s (w .few) in

@@ -59,7 +59,7 @@ begun-memory : (p : Pattern) → memory-of Waiting blank (pattern-cells p) (ring
 unfolding held-list those sorted latest laid below-run
 begun-memory p = ap (memory-of Waiting blank (pattern-cells p)) (drop-replicate 419 memory-long 0)
 
-first-waits : (p : Pattern) → a-pattern p ≡ true → Telling own (λ m. Waits p m 0 []) waits (own .step (own .start) (begins p)) []
+pub first-waits : (p : Pattern) → a-pattern p ≡ true → Telling own (λ m. Waits p m 0 []) waits (own .step (own .start) (begins p)) []
 unfolding each-heard latest held-list those sorted
 first-waits p ok =
     let step : own .step (own .start) (begins p) ≡ stepped (memory-of Waiting blank (pattern-cells p) (ring-of zeros)) waits = begins-is p ∙ rw ok in (

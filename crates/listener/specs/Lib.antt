@@ -3,3 +3,4 @@ pub mod Promise
 pub mod Machine
 pub mod Holding
 pub mod Entry
+pub mod Story

@@ -9,4 +9,8 @@ mod turns;
 pub use acts::Told;
 pub use entry::step;
 pub use head::MEMORY_LONG;
+pub use promise::full_exactly;
+pub use promise::holds_just;
 pub use promise::keeps_its_promise;
+pub use promise::tells_all;
+pub use promise::tells_what_is_known;

@@ -9,7 +9,7 @@ mod Telling
 mod Reach
 mod Same
 mod Enough
-mod Known
+pub mod Known
 pub mod Newly
 mod Positions
 mod Rising

@@ -45,7 +45,7 @@ newly-held p es f o h l =
     ∙ held-rows p old (fresh old new f) (λ r. fresh-late old new f (last-of r) t) (es ++ f ∷ [])
 
 -- all rows are the known ones, then those that end above what is heard to
-all-split : (p : Pattern) (es : List Event) → all-rows p es ≡ known-rows p es ++ those (λ r. ltb (heard-to p es) (last-of r .time)) (all-rows p es)
+pub all-split : (p : Pattern) (es : List Event) → all-rows p es ≡ known-rows p es ++ those (λ r. ltb (heard-to p es) (last-of r .time)) (all-rows p es)
 all-split p es = rw in-order-is (sym (those-all (λ r. true) told (all-any (λ r. true ≡ true) (λ r. refl) told)) ∙ split ∙ ap (λ x. those is-known told ++ x) others)
   where
     mark : ℕ
