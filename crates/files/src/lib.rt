@@ -2,6 +2,8 @@
 mod bytes;
 mod decoding;
 mod faults;
+mod reading;
+mod text;
 
 pub use bytes::NUMBER_BYTES;
 pub use bytes::number;
@@ -15,3 +17,5 @@ pub use faults::FaultDisplay;
 pub use faults::Part;
 pub use faults::PartDisplay;
 pub use faults::too_large;
+pub use reading::read;
+pub use text::line;
