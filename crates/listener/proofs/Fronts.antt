@@ -6,6 +6,9 @@ use Prim.Native.Nat.{ℕ, zero, suc, _+_, _-_, _≤_, _<_}
 use native.Mathlib.Omega.{arith}
 use lib.Dec.{eqb, ltb, leb}
 use lib.ListN.{length, drop}
+use native.Mathlib.Numerals.{add-one}
+use borrow.Author.Tests.{lt-ltb, le-ltb}
+use Rattle.std.proofs.shelf.Lists.{drop-all}
 use Rattle.std.proofs.shelf.Ways.{tells}
 use Rattle.timeline.specs.declared.events.Event.{Event}
 use Rattle.timeline.specs.Lists.{pick, those}
@@ -92,3 +95,27 @@ pub below-run-most : (b : ℕ) (es : List Event) → below-run b es ≤ length e
 unfolding below-run
 below-run-most b [] = omega arith
 below-run-most b (e ∷ es) = let ih = below-run-most b es in grind (arith, tells)
+
+drop-nth : (es : List Event) (i : ℕ) → i < length es → drop i es ≡ nth es i ∷ drop (suc i) es
+unfolding nth
+drop-nth [] i l = absurd (omega arith)
+drop-nth (e ∷ es) zero l = refl
+drop-nth (e ∷ es) (suc i) l = drop-nth es i (omega arith)
+
+-- one event more of a run, and where it stops
+pub run-goes-on : (b i : ℕ) (es : List Event) → i < length es → nth es i .time < b → i + below-run b (drop i es) ≡ (i + 1) + below-run b (drop (i + 1) es)
+unfolding below-run
+run-goes-on b i es l t =
+    let next : i + 1 ≡ suc i = add-one i in
+    let yes : ltb (nth es i .time) b ≡ true = lt-ltb (nth es i .time) b t in
+    rw next (ap (λ (xs : List Event). i + below-run b xs) (drop-nth es i l) ∙ rw yes (omega arith))
+
+pub run-stops : (b i : ℕ) (es : List Event) → i < length es → b ≤ nth es i .time → below-run b (drop i es) ≡ 0
+unfolding below-run
+run-stops b i es l t =
+    let fails : ltb (nth es i .time) b ≡ false = le-ltb (nth es i .time) b t in
+    ap (below-run b) (drop-nth es i l) ∙ rw fails
+
+pub run-ends : (b i : ℕ) (es : List Event) → length es ≤ i → below-run b (drop i es) ≡ 0
+unfolding below-run
+run-ends b i es l = ap (below-run b) (drop-all i es l)

@@ -1,5 +1,5 @@
 mod Runs
-mod Memory
+mod Words
 mod Steps
 mod Tells
 mod Fronts
@@ -8,3 +8,12 @@ mod Hearing
 mod Counts
 mod Counted
 mod Waiting
+mod Small
+mod Cursors
+mod SmallHeads
+mod Written
+mod Steadily
+mod Whole
+mod Doing
+mod Saying
+mod Entering

@@ -17,7 +17,7 @@ use Rattle.listener.specs.declared.head.Phase.the-variants.{New, Waiting, Tell
 use Rattle.listener.specs.declared.head.Head.{Head}
 use Rattle.listener.specs.Engine.{Told-it, begins, comes, ends, next, refused, Stepped}
 use Rattle.listener.specs.Machine.{memory-long, memory-of, a-head, head-at, with-some, stepped, tell-from, cursor-of, ending-head, event-of, heard, came, ended, resumed, gone-on, machine, own}
-use Rattle.listener.proofs.Memory.{ring-back, cells-back, memory-length, head-found}
+use Rattle.listener.proofs.Words.{ring-back, cells-back, memory-length, head-found}
 
 -- a state and the other parts of a memory that the listener can have written
 pub record Sound (h : Head) (cells ring : List ℕ) : Type 0 where

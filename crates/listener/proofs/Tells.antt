@@ -18,6 +18,7 @@ use Rattle.rows.specs.Known.{numbers}
 use Rattle.rows.specs.Search.{forward}
 use Rattle.rows.specs.Finding.{six, row-of, to-come, placed, behind, found-first, next-found}
 use Rattle.rows.specs.SearchLaws.{Goes-on, Is-over}
+use Rattle.rows.proofs.Chosen.{length-forward}
 use Rattle.rows.proofs.Resuming.{goes-on-proof, is-over-proof}
 use Rattle.rows.specs.declared.search.Cursor.{Cursor}
 use Rattle.rows.specs.declared.search.Found.{Found}
@@ -40,11 +41,6 @@ length-each : {A B : Type 0} (f : A → B) (xs : List A) → length (each f xs) 
 unfolding each
 length-each f [] = refl
 length-each f (x ∷ xs) = ap suc (length-each f xs)
-
-length-forward : (xs : List ℕ) → length (forward xs) ≡ length xs
-unfolding forward
-length-forward [] = refl
-length-forward (x ∷ xs) = length-append (forward xs) (x ∷ []) ∙ omega (arith, length-forward xs)
 
 length-row : (h : List Event) (path : List ℕ) → length (numbers (row-of h path)) ≡ length path
 length-row h path =

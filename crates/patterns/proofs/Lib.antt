@@ -2,9 +2,9 @@ pub mod Runs
 pub mod Steps
 pub mod Back
 pub mod Words
-mod Tests
+mod Holds
 mod Laying
 mod Parts
 mod May
-pub mod Wholes
+mod Wholes
 mod Each

@@ -7,17 +7,17 @@ use native.Mathlib.Omega.{arith}
 use lib.ListN.{length}
 use Rattle.timeline.specs.declared.events.Event.{Event}
 use Rattle.timeline.specs.Lists.{pick, those, flat, each, run}
-use Rattle.timeline.specs.Order.{nth, before, last-of, sorted, each-heard}
+use Rattle.timeline.specs.Order.{nth, last-of, sorted, each-heard}
 use Rattle.timeline.proofs.Lists.{all-any, those-none, those-same, those-flat, those-those}
-use Rattle.timeline.proofs.Sorting.{ins, isort}
-use Rattle.timeline.proofs.Order.{sorted-is}
+use Rattle.timeline.proofs.Each.{each-flat}
+use Rattle.timeline.proofs.Order.{length-sorted}
 use Rattle.patterns.specs.Patterns.{Step, Pattern}
 use Rattle.rows.specs.Rows.{rows, in-order, all-rows}
 use Rattle.rows.specs.Known.{numbers}
 use Rattle.rows.specs.Search.{paths, from, rest, chosen}
 use Rattle.rows.specs.Finding.{row-ok, row-lo, row-hi, space, row-of, to-come}
 use Rattle.rows.specs.SearchLaws.{same, Rises, Just, begin-at, Rows-of-one, Rows-in-order, Rest-is}
-use Rattle.rows.proofs.Positions.{flat-pick, flat-same, flat-narrow, each-flat}
+use Rattle.rows.proofs.Positions.{flat-pick, flat-same, flat-narrow}
 use Rattle.rows.proofs.OneLast.{rows-of-one-proof}
 use Rattle.rows.proofs.ByLast.{sorted-rises, all-by-last}
 
@@ -26,7 +26,7 @@ abbrev ending : List Event → Pattern → ℕ → List (List Event)
 ending h p l = those (λ r. same (nth h l) (last-of r)) (rows h (p .within) (p .steps) [])
 
 -- what the search finds from one last event on
-pub found-from : (h : List Event) → Rises h → (p : Pattern) → 1 ≤ length (p .steps) → (a upto : ℕ) → upto ≤ length h
+found-from : (h : List Event) → Rises h → (p : Pattern) → 1 ≤ length (p .steps) → (a upto : ℕ) → upto ≤ length h
     → each (row-of h) (from (space h p upto) (length (p .steps) - 1) [] a) ≡ flat (ending h p) (run a (upto - a))
 unfolding from row-hi Rows-of-one
 found-from h r p s a upto k =
@@ -44,20 +44,10 @@ all-ending p es hd k = go (p .steps) k
     go [] k = absurd (omega arith)
     go (s ∷ ss) k = all-by-last p es s ss hd
 
-length-ins : {A : Type 0} (lt : A → A → Bool) (e : A) (fs : List A) → length (ins lt e fs) ≡ suc (length fs)
-unfolding ins
-length-ins lt e [] = refl
-length-ins lt e (f ∷ fs) = let ih = length-ins lt e fs in grind arith
-
-length-isort : {A : Type 0} (lt : A → A → Bool) (es : List A) → length (isort lt es) ≡ length es
-unfolding isort
-length-isort lt [] = refl
-length-isort lt (e ∷ es) = length-ins lt e (isort lt es) ∙ ap suc (length-isort lt es)
-
 pub rows-in-order-proof : Rows-in-order
 unfolding Rows-in-order paths from row-lo row-hi
 rows-in-order-proof p es hd k =
-    let len : length (sorted es) ≡ length es = ap length (sorted-is es) ∙ length-isort before es in
+    let len = length-sorted es in
     let n : length (p .steps) ≡ suc (length (p .steps) - 1) = omega arith in
     let z : length es - 0 ≡ length (sorted es) = omega arith in
     ap (λ m. each (row-of (sorted es)) (paths (space (sorted es) p (length es)) m [])) n

@@ -2,23 +2,24 @@
 use mathlib.Core.Path.{_≡_, refl, sym, ap, ap₂, _∙_}
 use mathlib.Core.Bool.{Bool, true, false, _&&_, not, false≢true}
 use mathlib.Core.List.{List, [], _∷_, _++_}
-use Prim.Native.Nat.{ℕ, _<_}
+use Prim.Native.Nat.{ℕ}
 use native.Mathlib.Omega.{arith}
 use lib.ListN.{length}
 use Rattle.std.proofs.shelf.Ways.{tells}
 use Rattle.timeline.specs.declared.events.Event.{Event}
 use Rattle.timeline.specs.Lists.{or, any, those, flat, run}
 use Rattle.timeline.specs.Order.{nth, before, last-of, sorted, each-heard}
-use Rattle.timeline.proofs.Lists.{All, Pairs, all-map, all-any, all-both, all-flat, all-those, those-all, those-same, those-those, pairs-those, pairs-flat, pairs-map}
-use Rattle.timeline.proofs.Sorting.{isort, Ord, Strict, Apart, ins-front, all-isort, ord-isort, those-isort, those-split, strict-isort}
-use Rattle.timeline.proofs.Order.{before-irr, before-order, sorted-is, heard-pairs, heard-apart}
+use Rattle.timeline.proofs.Lists.{All, Pairs, all-map, all-any, all-both, all-flat, all-those, those-all, those-same, those-those, pairs-those, pairs-flat}
+use Rattle.timeline.proofs.Each.{flat-each, flat-same}
+use Rattle.timeline.proofs.Sorting.{isort, Ord, Strict, ins-front, all-isort, ord-isort, those-isort, those-split}
+use Rattle.timeline.proofs.Order.{before-irr, sorted-strict}
 use Rattle.patterns.specs.Patterns.{Step, Pattern}
 use Rattle.rows.specs.Rows.{goes-on, rows, row-before, told-before, in-order}
 use Rattle.rows.specs.SearchLaws.{same, Ahead, Rises}
 use Rattle.rows.proofs.Order.{told-order, in-order-is}
 use Rattle.rows.proofs.Rows.{Begins, rows-begin, first}
-use Rattle.rows.proofs.Positions.{flat-each, each-nth}
-use Rattle.rows.proofs.Rising.{last-is}
+use Rattle.rows.proofs.Positions.{each-nth}
+use Rattle.rows.proofs.Reach.{last-snoc}
 
 -- rows among rising events rise, event by event
 rows-rise : (all : List Event) (w : ℕ) → Pairs (λ x y. before x y ≡ true) all → (ss : List Step) (es : List Event) → Pairs (λ r s. row-before r s ≡ true) (rows all w ss es)
@@ -74,7 +75,7 @@ in-all (x ∷ h) = (rw (before-irr x) refl, all-map (In h) (In (x ∷ h)) (λ e 
 lasts : (h : List Event) (w : ℕ) (s : Step) (ss : List Step) (es : List Event) → All (λ r. In h (last-of r)) (rows h w (s ∷ ss) es)
 unfolding rows
 lasts h w s [] es =
-    all-flat (λ e. In h e × (goes-on h w es s e ≡ true)) (λ r. In h (last-of r)) (λ e. rows h w [] (es ++ e ∷ [])) (λ e g. (rw (last-is es e) (g .0), tt))
+    all-flat (λ e. In h e × (goes-on h w es s e ≡ true)) (λ r. In h (last-of r)) (λ e. rows h w [] (es ++ e ∷ [])) (λ e g. (rw (last-snoc es e) (g .0), tt))
     (those (goes-on h w es s) h) (all-those (In h) (goes-on h w es s) h (in-all h))
 lasts h w s (t ∷ ss) es =
     all-flat (λ e. In h e × (goes-on h w es s e ≡ true)) (λ r. In h (last-of r)) (λ e. rows h w (t ∷ ss) (es ++ e ∷ [])) (λ e g. lasts h w t ss (es ++ e ∷ []))
@@ -88,11 +89,6 @@ later x z (f ∷ h) a k = let ih = later x z h (a .1) in let b = a .0 in let c =
   where
     cross-same : (x f z : Event) → before x f ≡ true → same f z ≡ true → before x z ≡ true
     cross-same x f z b s = grind (arith, tells)
-
-flat-all : {A B : Type 0} (g k : A → List B) (xs : List A) → All (λ x. g x ≡ k x) xs → flat g xs ≡ flat k xs
-unfolding flat
-flat-all g k [] a = refl
-flat-all g k (x ∷ xs) a = ap₂ (λ u v. u ++ v) (a .0) (flat-all g k xs (a .1))
 
 ahead-all : (x : Event) (h : List Event) → Ahead x h → All (λ e. before x e ≡ true) h
 ahead-all x [] a = tt
@@ -110,7 +106,7 @@ by-last (x ∷ h) rise rs o a =
     (those-same z (λ r. same x (last-of r)) rs (all-map (λ r. In (x ∷ h) (last-of r)) (λ r. z r ≡ same x (last-of r)) (λ r k. here r k) rs a))
     (by-last h (rise .1) ys (pairs-those (λ r s. told-before s r ≡ false) nz rs o)
     (all-map (λ r. In (x ∷ h) (last-of r) × (nz r ≡ true)) (λ r. In h (last-of r)) (λ r k. there r (k .0) (k .1)) ys (all-those (λ r. In (x ∷ h) (last-of r)) nz rs a))
-    ∙ flat-all (λ e. those (λ r. same e (last-of r)) ys) (λ e. those (λ r. same e (last-of r)) rs) h
+    ∙ flat-same (λ e. those (λ r. same e (last-of r)) ys) (λ e. those (λ r. same e (last-of r)) rs) h
     (all-map (λ e. before x e ≡ true) (λ e. those (λ r. same e (last-of r)) ys ≡ those (λ r. same e (last-of r)) rs)
     (λ e b.
     those-those (λ r. same e (last-of r)) nz rs
@@ -146,9 +142,6 @@ rises-from (f ∷ fs) a = (go f fs (a .0), rises-from fs (a .1))
     go e [] a = tt
     go e (f ∷ fs) a = (a .0, go e fs (a .1))
 
-sorted-strict : (es : List Event) → each-heard 0 es ≡ true → Strict before (sorted es)
-sorted-strict es h = rw sorted-is (strict-isort before before-order es (pairs-map (λ a b. a .heard < b .heard) (Apart before) heard-apart es (heard-pairs 0 es h)))
-
 pub sorted-rises : (es : List Event) → each-heard 0 es ≡ true → Rises (sorted es)
 sorted-rises es h = rises-from (sorted es) (sorted-strict es h)
 
@@ -161,7 +154,7 @@ all-by-last p es s ss hd =
     let R = rows h (p .within) (s ∷ ss) [] in
     in-order-is R
     ∙ by-last h (sorted-rises es hd) (isort told-before R) (ord-isort told-before told-order R) (all-isort told-before (λ r. In h (last-of r)) R (lasts h (p .within) s ss []))
-    ∙ flat-all (λ e. those (λ r. same e (last-of r)) (isort told-before R)) (λ e. those (λ r. same e (last-of r)) R) h
+    ∙ flat-same (λ e. those (λ r. same e (last-of r)) (isort told-before R)) (λ e. those (λ r. same e (last-of r)) R) h
     (all-any (λ e. those (λ r. same e (last-of r)) (isort told-before R) ≡ those (λ r. same e (last-of r)) R)
     (λ e. one-in-order e R (rows-rise h (p .within) (sorted-strict es hd) (s ∷ ss) [])) h)
     ∙ ap (flat (λ e. those (λ r. same e (last-of r)) R)) (sym (each-nth h)) ∙ flat-each (λ e. those (λ r. same e (last-of r)) R) (nth h) (run 0 (length h))

@@ -1,6 +1,6 @@
 -- The positions chosen so far, as an array has them, and where a search can be.
 use mathlib.Core.Path.{_≡_, refl, sym, ap, ap₂, _∙_}
-use mathlib.Core.Bool.{Bool, true, _&&_}
+use mathlib.Core.Bool.{Bool, true, false, _&&_, true≢false}
 use mathlib.Core.List.{List, [], _∷_, _++_, append-assoc}
 use mathlib.Core.Logic.{_≢_, inl, inr}
 use Prim.Native.Nat.{ℕ, zero, suc, _+_, _≤_, _<_}
@@ -10,7 +10,7 @@ use lib.Dec.{ltb, leb}
 use lib.ListN.{length, getD, set, take, length-append}
 use lib.Seq.{take-suc}
 use Rattle.std.proofs.shelf.Lists.{getD-set-other}
-use Rattle.std.proofs.shelf.Tests.{and-parts, leb-true, ltb-true, le-leb, lt-ltb}
+use Rattle.std.proofs.shelf.Tests.{and-parts, cases-bool, leb-true, ltb-true, le-leb, lt-ltb}
 use Rattle.timeline.specs.Lists.{every, run}
 use Rattle.rows.specs.Search.{chosen, forward}
 use Rattle.rows.specs.Finding.{row-hi, placed}
@@ -64,7 +64,7 @@ chosen-below b at zero a j l = absurd (omega arith)
 chosen-below b at (suc d) a j l =
     elim (eq-or-lt-of-le l) [ inl e ↦ (let q : j ≡ d = omega arith in rw q (a .0)) | inr m ↦ chosen-below b at d (a .1) j (omega arith) ]
 
-every-run : (f : ℕ → Bool) (n a : ℕ) → ((j : ℕ) → a ≤ j → j < a + n → f j ≡ true) → every f (run a n) ≡ true
+pub every-run : (f : ℕ → Bool) (n a : ℕ) → ((j : ℕ) → a ≤ j → j < a + n → f j ≡ true) → every f (run a n) ≡ true
 unfolding every run
 every-run f zero a h = refl
 every-run f (suc n) a h = rw (h a (omega arith) (omega arith)) (every-run f n (suc a) (λ j k l. h j (omega arith) (omega arith)))
@@ -76,6 +76,9 @@ run-every f (suc n) a h j k l = elim (eq-or-lt-of-le k) [ inl e ↦ (rw e at (pa
   where
     parts : (f a ≡ true) × (every f (run (suc a) n) ≡ true)
     parts = and-parts (f a) (every f (run (suc a) n)) h
+
+pub every-not : (f : ℕ → Bool) (n a j : ℕ) → a ≤ j → j < a + n → f j ≡ false → every f (run a n) ≡ false
+every-not f n a j k l e = elim (cases-bool (every f (run a n))) [ inl t ↦ absurd (true≢false (sym (run-every f n a t j k l) ∙ e)) | inr t ↦ t ]
 
 -- what it says that a search can be at a cursor
 pub record Placed (n upto k : ℕ) (c : Cursor) : Type 0 where

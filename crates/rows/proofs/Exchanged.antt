@@ -7,22 +7,24 @@ use native.Mathlib.Omega.{arith}
 use Rattle.std.proofs.shelf.Ways.{tells}
 use Rattle.timeline.specs.declared.events.Event.{Event}
 use Rattle.timeline.specs.Lists.{each}
-use Rattle.timeline.specs.Order.{before, sorted, each-heard}
+use Rattle.timeline.specs.Order.{before, put, sorted, each-heard}
 use Rattle.timeline.proofs.Lists.{All, all-map, all-append, pairs-cross, pairs-back}
 use Rattle.timeline.proofs.Each.{each-append, each-self}
-use Rattle.timeline.proofs.Sorting.{Apart, isort-swap}
-use Rattle.timeline.proofs.Order.{before-order, sorted-is, heard-pairs}
+use Rattle.timeline.proofs.Sorting.{Apart}
+use Rattle.timeline.proofs.Order.{heard-pairs, put-comm}
 use Rattle.rows.specs.Rows.{rows, in-order}
 use Rattle.rows.specs.Known.{with-number}
 use Rattle.rows.specs.Sorted.{renumbered, exchanged, Renumbered, Neighbours}
 use Rattle.rows.proofs.Among.{among-all}
 use Rattle.rows.proofs.Renumbered.{renumbered-rows}
 
-sorted-swap : (es : List Event) (a b : Event) (fs : List Event) → (a .time ≡ b .time → ⊥) → sorted (es ++ a ∷ b ∷ fs) ≡ sorted (es ++ b ∷ a ∷ fs)
-sorted-swap es a b fs h = sorted-is (es ++ a ∷ b ∷ fs) ∙ isort-swap before before-order es a b fs apart ∙ sym (sorted-is (es ++ b ∷ a ∷ fs))
-  where
-    apart : Apart before a b
-    apart = grind (arith, tells)
+sorted-swap : (es : List Event) (a b : Event) (fs : List Event) → Apart before a b → sorted (es ++ a ∷ b ∷ fs) ≡ sorted (es ++ b ∷ a ∷ fs)
+unfolding sorted
+sorted-swap [] a b fs h = put-comm a b (sorted fs) h
+sorted-swap (e ∷ es) a b fs h = ap (put e) (sorted-swap es a b fs h)
+
+time-apart : (a b : Event) → (a .time ≡ b .time → ⊥) → Apart before a b
+time-apart a b h = grind (arith, tells)
 
 -- two numbers exchanged: each for the other, others as they are, and in order but for these two
 exchanged-first : (m n : ℕ) → exchanged m n m ≡ n
@@ -92,7 +94,8 @@ module _ (es : List Event) (a b : Event) (fs : List Event) (h : each-heard 0 (es
 pub neighbours : Neighbours
 unfolding Neighbours Renumbered
 neighbours p es a b fs h d =
-    ap (λ (x : List Event). in-order (rows x (p .within) (p .steps) [])) (sym (sorted-swap es (with-number (b .heard) a) (with-number (a .heard) b) fs d))
+    ap (λ (x : List Event). in-order (rows x (p .within) (p .steps) []))
+    (sym (sorted-swap es (with-number (b .heard) a) (with-number (a .heard) b) fs (time-apart (with-number (b .heard) a) (with-number (a .heard) b) d)))
     ∙ ap (λ (x : List Event). in-order (rows (sorted x) (p .within) (p .steps) [])) (sym (renumbers es a b fs h))
     ∙ renumbered-rows p (es ++ a ∷ b ∷ fs) (exchanged (a .heard) (b .heard))
     (λ x y m n. keeps-order es a b fs h d x y (among-all (Beside es a b fs h) x (es ++ a ∷ b ∷ fs) m (all-beside es a b fs h)) (among-all (Beside es a b fs h) y (es ++ a ∷ b ∷ fs) n (all-beside es a b fs h)))

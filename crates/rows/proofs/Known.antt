@@ -13,7 +13,7 @@ use Rattle.timeline.specs.Lists.{any, those, none-of}
 use Rattle.timeline.specs.Order.{before, nth, sorted, last-of, each-heard}
 use Rattle.timeline.proofs.Lists.{clash, All, all-map, all-any, all-append, those-all, those-none, those-append, those-same, pairs-cross}
 use Rattle.timeline.proofs.Sorting.{isort, all-isort, ord-isort, those-isort, those-split}
-use Rattle.timeline.proofs.Order.{sorted-is, before-irr, heard-pairs}
+use Rattle.timeline.proofs.Order.{before-irr, heard-pairs, those-sorted, all-sorted}
 use Rattle.patterns.specs.Patterns.{Step, fits-step}
 use Rattle.rows.specs.Rows.{between, goes-on, rows, put-row, in-order, told-before}
 use Rattle.rows.specs.Known.{heard-to}
@@ -21,7 +21,7 @@ use Rattle.rows.specs.Laws.{Known-stays, Grows}
 use Rattle.rows.specs.Newly.{settled, fresh}
 use Rattle.rows.proofs.Order.{told-order, in-order-is, grows-proof}
 use Rattle.rows.proofs.Reach.{Short, Reach, rows-last, short-none, last-snoc, before-down}
-use Rattle.rows.proofs.Same.{those-sorted, those-in-order, bad, goes-same, rows-same}
+use Rattle.rows.proofs.Same.{those-in-order, bad, goes-same, rows-same}
 
 settled-down : (mark : ℕ) (f a b : Event) → before a b ≡ false → settled mark f a ≡ true → settled mark f b ≡ true
 settled-down mark f a b h k = grind (arith, tells)
@@ -84,8 +84,8 @@ module _ (w : ℕ) (mark : ℕ) (f : Event) where
   module _ (es : List Event) (h : All (λ e. e .heard < f .heard) es) where
     all-M : All M (sorted (es ++ f ∷ []))
     all-M =
-        rw sorted-is (all-isort before M (es ++ f ∷ [])
-        (all-append M es (f ∷ []) (all-map (λ e. e .heard < f .heard) M (λ e l. inl (lt-ltb (e .heard) (f .heard) l)) es h) (inr (before-irr f), tt)))
+        all-sorted M (es ++ f ∷ [])
+        (all-append M es (f ∷ []) (all-map (λ e. e .heard < f .heard) M (λ e l. inl (lt-ltb (e .heard) (f .heard) l)) es h) (inr (before-irr f), tt))
 
     without : those earlier (sorted (es ++ f ∷ [])) ≡ sorted es
     without =
@@ -129,7 +129,7 @@ ended-is w s ss es f old new h l g = split ∙ ap₂ _++_ (sym same) (ap (those 
     ends-settled-all : All (λ r. leb (last-of r .time) old ≡ was-settled r) found-before
     ends-settled-all =
         all-map (λ r. last-of r .heard < f .heard) (λ r. leb (last-of r .time) old ≡ was-settled r) (λ r q. settled-all old f (last-of r) l q) found-before
-        (rows-last (λ e. e .heard < f .heard) (sorted es) w (rw sorted-is (all-isort before (λ e. e .heard < f .heard) es heard-before)) (s ∷ ss) []
+        (rows-last (λ e. e .heard < f .heard) (sorted es) w (all-sorted (λ e. e .heard < f .heard) es heard-before) (s ∷ ss) []
         (some-cons s ss (last-of [] .heard < f .heard)))
 
     same : ended w (s ∷ ss) old es ≡ those was-settled (isort told-before found-now)

@@ -8,22 +8,31 @@ mod Inserted
 mod Telling
 mod Reach
 mod Same
-mod Held
+mod Enough
 mod Known
 pub mod Newly
 mod Positions
 mod Rising
 mod Picks
 mod Steps
+mod Decoded
+mod Nevers
+mod Fitting
 mod Moves
 mod Following
-mod Chosen
+pub mod Chosen
+mod Arrays
+mod Numbers
+mod Pruning
+mod Searching
+mod FirstRow
+mod LevelOk
 mod OneLast
 mod ByLast
 pub mod AllFound
 mod Among
 mod Along
-mod Fitting
+mod AllFit
 pub mod Resuming
 mod Renumbered
 mod Sorted

@@ -6,16 +6,9 @@ use mathlib.Core.List.{List, [], _∷_, _++_, append-assoc}
 use Prim.Native.Nat.{ℕ, zero, suc, _+_, _-_, _*_, _≤_, _<_}
 use native.Mathlib.Omega.{arith}
 use native.Mathlib.Nat.{add-mul, mul-le-mul-right}
-use Rattle.timeline.specs.Lists.{those, flat, run}
-use Rattle.rows.specs.Search.{Space, paths, from, rest}
-
-run-none : (c h : ℕ) → h ≤ c → run c (h - c) ≡ []
-unfolding run
-run-none c h l = let e : h - c ≡ 0 = omega arith in rw e refl
-
-run-more : (c h : ℕ) → c < h → run c (h - c) ≡ c ∷ run (suc c) (h - suc c)
-unfolding run
-run-more c h l = let e : h - c ≡ suc (h - suc c) = omega arith in rw e refl
+use Rattle.timeline.specs.Lists.{those, flat}
+use Rattle.rows.specs.Search.{Space, paths, Barren, from, rest}
+use Rattle.rows.proofs.Positions.{run-none, run-more}
 
 module _ (S : Space) where
   from-none : (n : ℕ) (pre : List ℕ) (c : ℕ) → S .hi pre ≤ c → from S n pre c ≡ []
@@ -26,11 +19,7 @@ module _ (S : Space) where
   unfolding from those flat
   from-take n pre c l e = rw (run-more c (S .hi pre) l, e) refl
 
-  -- a position from which there is no way: not allowed, or none behind it
-  abbrev pub Barren : ℕ → List ℕ → ℕ → Type 0
-  Barren n pre c = S .ok pre c ≡ true → paths S n (c ∷ pre) ≡ []
-
-  from-past : (n : ℕ) (pre : List ℕ) (c : ℕ) → c < S .hi pre → Barren n pre c → from S n pre c ≡ from S n pre (suc c)
+  from-past : (n : ℕ) (pre : List ℕ) (c : ℕ) → c < S .hi pre → Barren S n pre c → from S n pre c ≡ from S n pre (suc c)
   unfolding from those flat
   from-past n pre c l b = go (S .ok pre c) refl
     where
@@ -52,13 +41,13 @@ module _ (S : Space) where
   unfolding rest
   back n i pre c l = rw (from-none n (i ∷ pre) c l) refl
 
-  pub past : (n : ℕ) (pre : List ℕ) (c : ℕ) → c < S .hi pre → Barren n pre c → rest S n pre (suc c) ≡ rest S n pre c
+  pub past : (n : ℕ) (pre : List ℕ) (c : ℕ) → c < S .hi pre → Barren S n pre c → rest S n pre (suc c) ≡ rest S n pre c
   unfolding rest
   past n [] c l b = sym (from-past n [] c l b)
   past n (i ∷ pre) c l b = rw (from-past n (i ∷ pre) c l b) refl
 
   -- several at once
-  pub jump : (n : ℕ) (pre : List ℕ) (m c : ℕ) → c + m ≤ S .hi pre → ((i : ℕ) → c ≤ i → i < c + m → Barren n pre i) → rest S n pre (c + m) ≡ rest S n pre c
+  pub jump : (n : ℕ) (pre : List ℕ) (m c : ℕ) → c + m ≤ S .hi pre → ((i : ℕ) → c ≤ i → i < c + m → Barren S n pre i) → rest S n pre (c + m) ≡ rest S n pre c
   jump n pre zero c l h = let e : c + zero ≡ c = omega arith in rw e refl
   jump n pre (suc m) c l h =
       let e : c + suc m ≡ suc c + m = omega arith in

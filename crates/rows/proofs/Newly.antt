@@ -21,7 +21,7 @@ use Rattle.rows.specs.Known.{heard-to, known-rows, is-held}
 use Rattle.rows.specs.Laws.{Grows}
 use Rattle.rows.specs.Newly.{settled, fresh, Newly-held, Ends-held, Held-later, Never-stale}
 use Rattle.rows.proofs.Order.{told-order, in-order-is, grows-proof}
-use Rattle.rows.proofs.Held.{held-rows, held-after}
+use Rattle.rows.proofs.Enough.{held-rows, held-after}
 use Rattle.rows.proofs.Known.{ended, ended-is, told-last}
 
 -- a fresh row ends no earlier than the old mark

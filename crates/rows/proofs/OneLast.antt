@@ -2,7 +2,7 @@
 use mathlib.Core.Path.{_≡_, refl, sym, ap, ap₂, _∙_}
 use mathlib.Core.Bool.{Bool, true, false, _&&_, not}
 use mathlib.Core.List.{List, [], _∷_, _++_, append-assoc, append-nil}
-use Prim.Native.Nat.{ℕ, zero, suc, _+_, _-_, _≤_, _<_}
+use Prim.Native.Nat.{ℕ, suc, _+_, _-_, _≤_, _<_}
 use native.Mathlib.Omega.{arith}
 use lib.Dec.{eqb}
 use lib.ListN.{length, length-append}
@@ -11,13 +11,14 @@ use Rattle.timeline.specs.declared.events.Event.{Event}
 use Rattle.timeline.specs.Lists.{pick, those, flat, each, run}
 use Rattle.timeline.specs.Order.{nth, before, last-of}
 use Rattle.timeline.proofs.Lists.{all-map, those-flat, those-none}
+use Rattle.timeline.proofs.Each.{each-append, each-flat, flat-each}
 use Rattle.timeline.proofs.Order.{before-irr}
 use Rattle.patterns.specs.Patterns.{Step, Pattern}
 use Rattle.rows.specs.Rows.{goes-on, rows}
-use Rattle.rows.specs.Search.{Space, paths, forward}
+use Rattle.rows.specs.Search.{paths, forward}
 use Rattle.rows.specs.Finding.{fits, step-of, row-ok, row-lo, row-hi, space, row-of}
 use Rattle.rows.specs.SearchLaws.{same, Rises, Rows-of-one}
-use Rattle.rows.proofs.Positions.{flat-pick, flat-none, flat-same, flat-narrow, each-flat, each-pick, each-append, flat-each, each-nth}
+use Rattle.rows.proofs.Positions.{flat-pick, flat-none, flat-same, flat-narrow, each-pick, each-nth}
 use Rattle.rows.proofs.Picks.{those-pick, pick-none, pick-and, and-true}
 use Rattle.rows.proofs.Steps.{step-mid, step-last}
 use Rattle.rows.proofs.Rising.{nth-before, not-before, goes-first, goes-next, goes-not, ends-later, snoc-each, last-each}

@@ -8,18 +8,28 @@ use lib.ListN.{length, getD}
 use Rattle.timeline.specs.declared.events.Event.{Event}
 use Rattle.timeline.specs.Lists.{pick, or, any, those, flat, each, run}
 use Rattle.timeline.specs.Order.{nth}
+use Rattle.timeline.proofs.Lists.{all-any}
+use Rattle.timeline.proofs.Each.{any-each}
 
 -- it holds of every number from a on and below b
 abbrev pub Within : (ℕ → Type 0) → ℕ → ℕ → Type 0
 Within P a b = (i : ℕ) → a ≤ i → i < b → P i
 
-pub run-append : (a m n : ℕ) → run a (m + n) ≡ run a m ++ run (a + m) n
+run-append : (a m n : ℕ) → run a (m + n) ≡ run a m ++ run (a + m) n
 unfolding run
 run-append a zero n = let e : zero + n ≡ n = omega arith in let f : a + zero ≡ a = omega arith in rw (e, f) refl
 run-append a (suc m) n =
     let e : suc m + n ≡ suc (m + n) = omega arith in
     let f : a + suc m ≡ suc a + m = omega arith in
     rw (e, f) (ap (λ r. a ∷ r) (run-append (suc a) m n))
+
+pub run-none : (c h : ℕ) → h ≤ c → run c (h - c) ≡ []
+unfolding run
+run-none c h l = let e : h - c ≡ 0 = omega arith in rw e refl
+
+pub run-more : (c h : ℕ) → c < h → run c (h - c) ≡ c ∷ run (suc c) (h - suc c)
+unfolding run
+run-more c h l = let e : h - c ≡ suc (h - suc c) = omega arith in rw e refl
 
 -- a run in three parts
 run-parts : (a b n : ℕ) → a ≤ b → b ≤ n → run 0 n ≡ run 0 a ++ (run a (b - a) ++ run b (n - b))
@@ -30,20 +40,10 @@ run-parts a b n h k =
     ap (run 0) e ∙ run-append 0 a ((b - a) + (n - b)) ∙ rw (g, run-append a (b - a) (n - b), f) refl
 
 module _ {A B : Type 0} where
-  pub each-append : (f : A → B) (xs ys : List A) → each f (xs ++ ys) ≡ each f xs ++ each f ys
-  unfolding each
-  each-append f [] ys = refl
-  each-append f (x ∷ xs) ys = ap (λ r. f x ∷ r) (each-append f xs ys)
-
   pub each-pick : (f : A → B) (b : Bool) (xs : List A) → each f (pick b xs []) ≡ pick b (each f xs) []
   unfolding each
   each-pick f true xs = refl
   each-pick f false xs = refl
-
-  any-each : (g : B → Bool) (f : A → B) (xs : List A) → any g (each f xs) ≡ any (λ x. g (f x)) xs
-  unfolding any each
-  any-each g f [] = refl
-  any-each g f (x ∷ xs) = ap (or (g (f x))) (any-each g f xs)
 
   pub flat-append : (g : A → List B) (xs ys : List A) → flat g (xs ++ ys) ≡ flat g xs ++ flat g ys
   unfolding flat
@@ -54,17 +54,6 @@ module _ {A B : Type 0} where
   unfolding flat those
   flat-pick g f [] = refl
   flat-pick g f (x ∷ xs) = let ih = flat-pick g f xs in grind arith
-
-module _ {A B C : Type 0} where
-  pub each-flat : (f : B → C) (g : A → List B) (xs : List A) → each f (flat g xs) ≡ flat (λ x. each f (g x)) xs
-  unfolding flat each
-  each-flat f g [] = refl
-  each-flat f g (x ∷ xs) = each-append f (g x) (flat g xs) ∙ ap (λ r. each f (g x) ++ r) (each-flat f g xs)
-
-  pub flat-each : (g : B → List C) (f : A → B) (xs : List A) → flat g (each f xs) ≡ flat (λ x. g (f x)) xs
-  unfolding flat each
-  flat-each g f [] = refl
-  flat-each g f (x ∷ xs) = ap (λ r. g (f x) ++ r) (flat-each g f xs)
 
 module _ {B : Type 0} where
   pub flat-none : (g : ℕ → List B) (a n : ℕ) → Within (λ i. g i ≡ []) a (a + n) → flat g (run a n) ≡ []
@@ -92,7 +81,7 @@ unfolding any
 any-append f [] ys = refl
 any-append f (x ∷ xs) ys = let ih = any-append f xs ys in grind arith
 
-any-none : (f : ℕ → Bool) (a n : ℕ) → Within (λ i. f i ≡ false) a (a + n) → any f (run a n) ≡ false
+pub any-none : (f : ℕ → Bool) (a n : ℕ) → Within (λ i. f i ≡ false) a (a + n) → any f (run a n) ≡ false
 unfolding any run
 any-none f a zero h = refl
 any-none f a (suc n) h = rw (h a (omega arith) (omega arith)) (any-none f (suc a) n (λ i k l. h i (omega arith) (omega arith)))
@@ -137,4 +126,4 @@ nth-each h (p ∷ ps) (suc j) l = nth-each h ps j (omega arith)
 pub any-between : (f : Event → Bool) (g : ℕ → Bool) (h : List Event) (a b : ℕ) → a ≤ b → b ≤ length h → Within (λ i. f (nth h i) ≡ false) 0 a
     → Within (λ i. f (nth h i) ≡ g i) a b → Within (λ i. f (nth h i) ≡ false) b (length h) → any f h ≡ any g (run a (b - a))
 any-between f g h a b p q u v t =
-    ap (any f) (sym (each-nth h)) ∙ any-each f (nth h) (run 0 (length h)) ∙ any-narrow (λ i. f (nth h i)) g a b (length h) p q u v t
+    ap (any f) (sym (each-nth h)) ∙ any-each f (nth h) (λ i. f (nth h i)) (run 0 (length h)) (all-any (λ i. f (nth h i) ≡ f (nth h i)) (λ i. refl) (run 0 (length h))) ∙ any-narrow (λ i. f (nth h i)) g a b (length h) p q u v t

@@ -13,8 +13,8 @@ use Rattle.timeline.specs.Lists.{pick, or, any, those, each, none-of, flat}
 use Rattle.timeline.specs.Order.{before, sorted, nth, first-of, last-of}
 use Rattle.timeline.proofs.Lists.{All, all-map, all-any, all-append, all-flat, all-part, those-same, any-same, every-same}
 use Rattle.timeline.proofs.Each.{each-append, those-each, flat-same, flat-each, each-flat, any-each}
-use Rattle.timeline.proofs.Sorting.{all-isort, isort-each}
-use Rattle.timeline.proofs.Order.{sorted-is}
+use Rattle.timeline.proofs.Sorting.{isort-each}
+use Rattle.timeline.proofs.Order.{sorted-is, all-sorted}
 use Rattle.patterns.specs.Patterns.{Test, Step, field, other-side, holds, fits-step}
 use Rattle.rows.specs.Rows.{between, goes-on, rows, row-before, told-before, put-row, in-order}
 use Rattle.rows.specs.Finding.{forbidden}
@@ -177,7 +177,7 @@ module _ (number : ℕ → ℕ) where
     unfolding each rows in-order put-row
     all-rows-re w [] es a = refl
     all-rows-re w (s ∷ ss) es a =
-        let k : All K (sorted es) = rw sorted-is (all-isort before K es a) in
+        let k = all-sorted K es a in
         ap (λ (x : List Event). in-order (rows x w (s ∷ ss) [])) (sorted-re es a)
         ∙ ap in-order (rows-re (sorted es) w k (s ∷ ss) [] tt)
         ∙ in-order-re (rows (sorted es) w (s ∷ ss) []) (made-first (sorted es) w k s ss)

@@ -1,5 +1,5 @@
 -- Events that rise, by their positions: what goes on behind a row of positions, and that longer rows end later.
-use mathlib.Core.Path.{_≡_, refl, _∙_}
+use mathlib.Core.Path.{_≡_, refl}
 use mathlib.Core.Bool.{Bool, true, false, _&&_}
 use mathlib.Core.List.{List, [], _∷_, _++_}
 use mathlib.Core.Logic.{_⊎_, inl, inr}
@@ -10,12 +10,15 @@ use Rattle.timeline.specs.declared.events.Event.{Event}
 use Rattle.timeline.specs.Lists.{any, those, each, none-of, run}
 use Rattle.timeline.specs.Order.{nth, before, first-of, last-of}
 use Rattle.timeline.proofs.Lists.{All, all-map, all-flat, all-any, all-those}
+use Rattle.timeline.proofs.Each.{each-append}
 use Rattle.timeline.proofs.Order.{before-asym, before-cross, before-irr}
 use Rattle.patterns.specs.Patterns.{Step, fits-step}
 use Rattle.rows.specs.Rows.{between, goes-on, rows}
 use Rattle.rows.specs.Finding.{forbidden, fits}
 use Rattle.rows.specs.SearchLaws.{Ahead, Rises}
-use Rattle.rows.proofs.Positions.{each-append, nth-each, any-between}
+use Rattle.rows.proofs.Picks.{and-false}
+use Rattle.rows.proofs.Positions.{nth-each, any-between}
+use Rattle.rows.proofs.Reach.{last-snoc}
 
 ahead-nth : (e : Event) (h : List Event) (j : ℕ) → Ahead e h → j < length h → before e (nth h j) ≡ true
 unfolding nth
@@ -36,14 +39,6 @@ not-before h r i j k l = elim (cases j i k) [ inl e ↦ rw e (before-irr (nth h 
     cases : (a b : ℕ) → a ≤ b → (a ≡ b) ⊎ (a < b)
     cases a b h = grind arith
 
-pub last-is : (es : List Event) (e : Event) → last-of (es ++ e ∷ []) ≡ e
-unfolding nth
-last-is es e = let n : length (es ++ e ∷ []) - 1 ≡ length es = omega (arith, length-append es (e ∷ [])) in rw n (go es e)
-  where
-    go : (es : List Event) (e : Event) → nth (es ++ e ∷ []) (length es) ≡ e
-    go [] e = refl
-    go (x ∷ es) e = go es e
-
 none-of-snoc : {A : Type 0} (xs : List A) (x : A) → none-of (xs ++ x ∷ []) ≡ false
 unfolding none-of
 none-of-snoc [] x = refl
@@ -56,17 +51,13 @@ getD-snoc ps q = let n : length (ps ++ q ∷ []) - 1 ≡ length ps = omega (arit
     go [] q = refl
     go (x ∷ ps) q = go ps q
 
-and-false : (a : Bool) → (a && false) ≡ false
-and-false true = refl
-and-false false = refl
-
 module _ (h : List Event) where
   pub snoc-each : (ps : List ℕ) (q : ℕ) → each (nth h) (ps ++ q ∷ []) ≡ each (nth h) ps ++ nth h q ∷ []
   unfolding each
   snoc-each ps q = each-append (nth h) ps (q ∷ [])
 
   pub last-each : (ps : List ℕ) (q : ℕ) → last-of (each (nth h) (ps ++ q ∷ [])) ≡ nth h q
-  last-each ps q = rw (snoc-each ps q) (last-is (each (nth h) ps) (nth h q))
+  last-each ps q = rw (snoc-each ps q) (last-snoc (each (nth h) ps) (nth h q))
 
   first-each : (ps : List ℕ) (q : ℕ) → first-of (each (nth h) (ps ++ q ∷ [])) ≡ nth h (getD (ps ++ q ∷ []) 0 0)
   first-each ps q = nth-each h (ps ++ q ∷ []) 0 (omega (arith, length-append ps (q ∷ [])))
@@ -111,7 +102,7 @@ module _ (h : List Event) (rise : Rises h) (w : ℕ) where
       rw (a, d, m) (and-false (fits-step es (nth h i) (s .kind) (s .tests)))
 
   goes-later : (es : List Event) (x : Event) (s : Step) (e : Event) → goes-on h w (es ++ x ∷ []) s e ≡ true → before x e ≡ true
-  goes-later es x s e g = let a = last-is es x in let b = none-of-snoc es x in let g₁ = rw (b, a) at g in grind arith
+  goes-later es x s e g = let a = last-snoc es x in let b = none-of-snoc es x in let g₁ = rw (b, a) at g in grind arith
 
   -- what holds of the rows behind every later event holds of all rows
   behind-all : (s : Step) (ss : List Step) (es : List Event) (x : Event) (Q : List Event → Type 0)
@@ -124,7 +115,7 @@ module _ (h : List Event) (rise : Rises h) (w : ℕ) where
   -- rows with a step more end later
   pub ends-later : (s : Step) (ss : List Step) (es : List Event) (x : Event) → All (λ r. before x (last-of r) ≡ true) (rows h w (s ∷ ss) (es ++ x ∷ []))
   unfolding rows
-  ends-later s [] es x = behind-all s [] es x (λ r. before x (last-of r) ≡ true) (λ e b. (rw (last-is (es ++ x ∷ []) e) b, tt))
+  ends-later s [] es x = behind-all s [] es x (λ r. before x (last-of r) ≡ true) (λ e b. (rw (last-snoc (es ++ x ∷ []) e) b, tt))
   ends-later s (t ∷ ss) es x =
       behind-all s (t ∷ ss) es x (λ r. before x (last-of r) ≡ true)
       (λ e b. all-map (λ r. before e (last-of r) ≡ true) (λ r. before x (last-of r) ≡ true) (λ r k. before-cross x e (last-of r) b (before-asym e (last-of r) k))

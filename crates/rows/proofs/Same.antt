@@ -6,20 +6,15 @@ use Prim.Native.Nat.{ℕ}
 use native.Mathlib.Omega.{arith}
 use Rattle.timeline.specs.declared.events.Event.{Event}
 use Rattle.timeline.specs.Lists.{pick, any, those, none-of}
-use Rattle.timeline.specs.Order.{before, sorted, last-of}
+use Rattle.timeline.specs.Order.{last-of}
 use Rattle.timeline.proofs.Lists.{All, all-map, those-none, those-flat, flat-those, any-those}
 use Rattle.timeline.proofs.Sorting.{isort, those-isort}
-use Rattle.timeline.proofs.Order.{before-order, sorted-is}
 use Rattle.patterns.specs.Patterns.{Step, fits-step}
 use Rattle.rows.specs.Rows.{between, clear, goes-on, rows, in-order, told-before}
 use Rattle.rows.proofs.Order.{told-order, in-order-is}
 use Rattle.rows.proofs.Reach.{Short, Reach, near, near-of, some-snoc, short-snoc, rows-reach}
 
--- to leave events out before or after they are put in order is the same
-pub those-sorted : (k : Event → Bool) (es : List Event) → those k (sorted es) ≡ sorted (those k es)
-those-sorted k es = ap (those k) (sorted-is es) ∙ those-isort before before-order k es ∙ sym (sorted-is (those k es))
-
--- and so with rows
+-- to leave rows out before or after they are put in order is the same
 pub those-in-order : (P : List Event → Bool) (rs : List (List Event)) → those P (in-order rs) ≡ isort told-before (those P rs)
 those-in-order P rs = ap (those P) (in-order-is rs) ∙ those-isort told-before told-order P rs
 

@@ -1,6 +1,7 @@
 -- A search through positions, level by level: the list of ways still to come after a place of it. It knows nothing of events.
 -- Assumes nothing: these are definitions.
-use mathlib.Core.Bool.{Bool}
+use mathlib.Core.Path.{_≡_}
+use mathlib.Core.Bool.{Bool, true}
 use mathlib.Core.List.{List, [], _∷_, _++_}
 use Prim.Native.Nat.{ℕ, zero, suc, _-_}
 use lib.ListN.{getD}
@@ -16,6 +17,10 @@ pub record Space : Type 0 where
 unfoldable pub paths : Space → ℕ → List ℕ → List (List ℕ)
 paths S zero pre = pre ∷ []
 paths S (suc n) pre = flat (λ i. paths S n (i ∷ pre)) (those (S .ok pre) (run (S .lo pre) (S .hi pre - S .lo pre)))
+
+-- a position that leads nowhere: it may not be chosen, or there is no way behind it
+abbrev pub Barren : Space → ℕ → List ℕ → ℕ → Type 0
+Barren S n pre c = S .ok pre c ≡ true → paths S n (c ∷ pre) ≡ []
 
 -- all ways to choose a level, from c on, and then n more
 unfoldable pub from : Space → ℕ → List ℕ → ℕ → List (List ℕ)

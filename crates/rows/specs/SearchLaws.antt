@@ -16,7 +16,6 @@ use Rattle.rows.specs.Search.{paths}
 use Rattle.rows.specs.Finding.{row-ok, space, row-of, six, to-come, placed, next-found}
 use Rattle.rows.specs.declared.search.Cursor.{Cursor}
 use Rattle.rows.specs.declared.search.Found.{Found}
-use Rattle.std.specs.declared.option.Option.{Option}
 use Rattle.std.specs.declared.option.Option.the-variants.{Some, None}
 
 -- the same event: neither is before the other

@@ -1,12 +1,16 @@
 // Rows of events that fit a pattern: what they are, and how they are found.
 mod extension;
 mod finder;
+mod held;
 mod insertion;
 mod lateness;
 mod laws;
+mod levels;
 mod night;
 mod search;
 mod searched;
+#[cfg(test)]
+mod tests;
 mod told;
 
 pub use finder::FindError;
@@ -32,6 +36,7 @@ pub use laws::told_once;
 pub use night::worked_night;
 pub use search::Cursor;
 pub use search::Found;
+pub use search::next_row;
 pub use searched::goes_on;
 pub use searched::is_over;
 pub use searched::rest_is;

@@ -12,12 +12,13 @@ use Rattle.timeline.specs.Lists.{or, any, every, those, none-of}
 use Rattle.timeline.specs.Order.{before, sorted, first-of, last-of}
 use Rattle.timeline.proofs.Lists.{clash, All, all-map, all-any, those-same, those-those}
 use Rattle.timeline.proofs.Sorting.{isort}
+use Rattle.timeline.proofs.Order.{those-sorted}
 use Rattle.patterns.specs.Patterns.{Step, Pattern, fits-step, holds, named}
 use Rattle.rows.specs.Rows.{between, rows, all-rows, told-before}
 use Rattle.rows.specs.Known.{heard-to, is-held}
 use Rattle.rows.specs.Laws.{Held-enough}
 use Rattle.rows.proofs.Reach.{Short, Reach, near, short-none, short-snoc, last-snoc, first-snoc, before-time}
-use Rattle.rows.proofs.Same.{those-sorted, those-in-order, bad, goes-same, rows-same}
+use Rattle.rows.proofs.Same.{those-in-order, bad, goes-same, rows-same}
 
 or-right : (a b : Bool) → b ≡ true → or a b ≡ true
 or-right a b h = grind arith

@@ -6,7 +6,10 @@ use Prim.Native.Nat.{ℕ, suc, _+_, _≤_, _<_}
 use native.Mathlib.Omega.{arith}
 use lib.Dec.{eqb, ltb, leb}
 use lib.ListN.{length, getD, take, drop}
-use Rattle.std.proofs.shelf.Lists.{drop-at, take-at, length-append, getD-append-left, take-append-drop, append-assoc}
+use Rattle.std.proofs.shelf.Lists.{append-nil, drop-append-le, take-append-le, drop-take, length-take, length-take-le, drop-all, take-all, length-drop, drop-at, take-at, length-append, getD-append-left, take-append-drop, append-assoc, drop-drop}
+use Rattle.std.proofs.shelf.Edits.{sets-eq}
+use lib.Seq.{sets}
+use borrow.Rule.Slice.PartMut.{putMid}
 use Rattle.std.proofs.shelf.Ways.{tells}
 use Rattle.std.specs.declared.option.Option.{Option}
 use Rattle.std.specs.declared.option.Option.the-variants.{Some, None}
@@ -26,7 +29,7 @@ six-length (a ∷ b ∷ c ∷ d ∷ []) = refl
 six-length (a ∷ b ∷ c ∷ d ∷ e ∷ []) = refl
 six-length (a ∷ b ∷ c ∷ d ∷ e ∷ f ∷ xs) = refl
 
-abbrev places : List ℕ → List ℕ
+abbrev pub places : List ℕ → List ℕ
 places xs = getD xs 0 0 ∷ getD xs 1 0 ∷ getD xs 2 0 ∷ getD xs 3 0 ∷ getD xs 4 0 ∷ getD xs 5 0 ∷ []
 
 six-places : (xs ys : List ℕ) → places (six xs ++ ys) ≡ six xs
@@ -72,3 +75,45 @@ module _ (ph : Phase) (h : Head) (cells ring : List ℕ) where
       let m : List ℕ = memory-of ph h cells ring in
       let same : eqb (phase-number ph) (phase-number ph) ≡ true = grind (arith, tells) in
       ap (λ (g : Head). pick (eqb (phase-number ph) (phase-number ph) && a-head g) (Some g) None) (head-back e) ∙ rw (same, ok)
+
+places-whole : (xs : List ℕ) → length xs ≡ 6 → places xs ≡ six xs
+places-whole [] e = absurd (omega arith)
+places-whole (a ∷ []) e = absurd (omega arith)
+places-whole (a ∷ b ∷ []) e = absurd (omega arith)
+places-whole (a ∷ b ∷ c ∷ []) e = absurd (omega arith)
+places-whole (a ∷ b ∷ c ∷ d ∷ []) e = absurd (omega arith)
+places-whole (a ∷ b ∷ c ∷ d ∷ e₁ ∷ []) e = absurd (omega arith)
+places-whole (a ∷ b ∷ c ∷ d ∷ e₁ ∷ f ∷ xs) e = refl
+
+pub behind-head : (m : List ℕ) → drop 14 m ≡ cells-of m ++ ring-of m
+behind-head m = sym (ap (λ (r : List ℕ). take 405 (drop 14 m) ++ r) (sym (drop-drop 405 14 m)) ∙ take-append-drop 405 (drop 14 m))
+
+-- the state written word by word
+pub stored :
+    (m : List ℕ) (n : ℕ) (h : Head) → length m ≡ memory-long → length (h .at) ≡ 6
+    → sets m 0 (n ∷ h .count ∷ h .latest ∷ h .start ∷ h .len ∷ h .known ∷ h .upto ∷ h .stale ∷ places (h .at)) ≡ (n ∷ head-words h) ++ (cells-of m ++ ring-of m)
+stored m n h long six-long =
+    sets-eq (n ∷ h .count ∷ h .latest ∷ h .start ∷ h .len ∷ h .known ∷ h .upto ∷ h .stale ∷ places (h .at)) m 0 (omega arith)
+    ∙ ap₂ (λ (xs r : List ℕ). (n ∷ h .count ∷ h .latest ∷ h .start ∷ h .len ∷ h .known ∷ h .upto ∷ h .stale ∷ xs) ++ r) (places-whole (h .at) six-long) (behind-head m)
+
+-- the ring lent, and given back
+pub ring-lent : (m : List ℕ) → length m ≡ memory-long → take ring-long (drop 419 m) ≡ ring-of m
+ring-lent m l = take-all ring-long (drop 419 m) (omega (arith, length-drop 419 m))
+
+given-back : (a k : ℕ) (m r : List ℕ) → length m ≡ a + k → putMid a k m r ≡ take a m ++ r
+given-back a k m r l = ap (λ (x : List ℕ). take a m ++ (r ++ x)) (drop-all k (drop a m) (omega (arith, length-drop a m))) ∙ ap (λ (x : List ℕ). take a m ++ x) (append-nil r)
+
+pub ring-given : (m r : List ℕ) → length m ≡ memory-long → putMid 419 ring-long m r ≡ take 419 m ++ r
+ring-given m r l = given-back 419 ring-long m r l
+
+pub lent-length : (m : List ℕ) → length m ≡ memory-long → length (take ring-long (drop 419 m)) ≡ ring-long
+lent-length m l = ap length (ring-lent m l) ∙ length-drop 419 m ∙ omega arith
+
+-- a memory with another ring
+pub cells-stay : (m r : List ℕ) → length m ≡ memory-long → cells-of (take 419 m ++ r) ≡ cells-of m
+cells-stay m r l =
+    ap (take 405) (drop-append-le 14 (take 419 m) r (omega (arith, length-take-le 419 m (omega arith)))) ∙ take-append-le 405 (drop 14 (take 419 m)) r (omega (arith, length-drop 14 (take 419 m), length-take-le 419 m (omega arith)))
+    ∙ ap (take 405) (drop-take 14 405 m) ∙ take-all 405 (take 405 (drop 14 m)) (omega (arith, length-take 405 (drop 14 m)))
+
+pub ring-there : (m r : List ℕ) → length m ≡ memory-long → ring-of (take 419 m ++ r) ≡ r
+ring-there m r l = drop-at (take 419 m) r 419 (length-take-le 419 m (omega arith))
