@@ -1,58 +1,16 @@
 // batch PATTERN EVENTS: all rows of a pattern among the events that count, found by looking through everything.
+use files::Failed;
+use files::FailedFromAlloc;
+use files::FailedFromIo;
 use files::FaultDisplay;
 use files::Reading;
 use files::line;
+use files::read_file;
+use files::read_pattern;
 use rows::FindError;
 use rows::find_counted;
-use std::alloc::AllocError;
 use std::env;
-use std::io;
 use timeline::Event;
-
-// Why the program ends with status 1.
-#[derive(Drop)]
-enum Failed {
-    // It was said already.
-    Said,
-    Memory,
-    Output,
-}
-
-impl From<AllocError> for Failed as FailedFromAlloc {
-    fn from(_e: AllocError) -> Failed {
-        Failed::Memory
-    }
-}
-
-impl From<io::Error> for Failed as FailedFromIo {
-    fn from(_e: io::Error) -> Failed {
-        Failed::Output
-    }
-}
-
-// The numbers of a pattern's file.
-fn read_pattern(rt: &LibcRuntime, path: &str) -> Result<Vec<u64>, Failed> {
-    let bytes = read_file(rt, path)?;
-    let Some(row) = files::numbers(rt.alloc(), &bytes)? else {
-        let length = bytes.len();
-        eprintln!(
-            rt,
-            "{path}: {length} bytes are no whole number of numbers of 8 bytes"
-        )?;
-        return Err(Failed::Said);
-    };
-    Ok(row)
-}
-
-fn read_file(rt: &LibcRuntime, path: &str) -> Result<Vec<u8>, Failed> {
-    match files::read(rt, path) {
-        Ok(bytes) => Ok(bytes),
-        Err(e) => {
-            eprintln!(rt, "{path}: {e}")?;
-            Err(Failed::Said)
-        }
-    }
-}
 
 // A line for each row.
 fn print_rows(rt: &LibcRuntime, row: &[u64], events: &[Event]) -> Result<(), Failed> {

@@ -1,6 +1,7 @@
 // Patterns and events in files: numbers of eight bytes, the low byte first.
 mod bytes;
 mod decoding;
+mod failing;
 mod faults;
 mod reading;
 mod text;
@@ -12,6 +13,12 @@ pub use decoding::EVENT_BYTES;
 pub use decoding::Reading;
 pub use decoding::event;
 pub use decoding::events;
+pub use failing::Failed;
+pub use failing::FailedFromAlloc;
+pub use failing::FailedFromIo;
+pub use failing::FailedFromRefused;
+pub use failing::read_file;
+pub use failing::read_pattern;
 pub use faults::Fault;
 pub use faults::FaultDisplay;
 pub use faults::Part;
