@@ -1,6 +1,5 @@
 // batch PATTERN EVENTS: all rows of a pattern among the events that count, found by looking through everything.
 use files::FaultDisplay;
-use files::Reading;
 use files::line;
 use rows::FindError;
 use rows::find_counted;
