@@ -3,7 +3,6 @@ use files::Failed;
 use files::FailedFromAlloc;
 use files::FailedFromIo;
 use files::FaultDisplay;
-use files::Reading;
 use files::line;
 use files::read_file;
 use files::read_pattern;

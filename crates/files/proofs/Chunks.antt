@@ -5,13 +5,11 @@ use mathlib.Core.List.{List, [], _∷_, _++_, append-assoc, append-nil}
 use Prim.Native.Nat.{ℕ, suc, _+_, _≤_, _<_}
 use native.Mathlib.Numerals.{add-one}
 use lib.ListN.{length, getD, drop}
-use Rattle.std.specs.declared.option.Option.{Option}
 use Rattle.std.specs.declared.option.Option.the-variants.{Some, None}
 use Rattle.std.proofs.shelf.Lists.{drop-more, drop-all}
 use Rattle.timeline.specs.declared.events.Event.{Event}
 use Rattle.patterns.specs.Limits.{an-event}
 use Rattle.files.specs.declared.faults.Part.{Part}
-use Rattle.files.specs.declared.faults.Fault.{Fault}
 use Rattle.files.specs.declared.faults.Fault.the-variants.{TooLarge}
 use Rattle.files.specs.Events.{event-in, events-from, too-large, front-of, fault-with, fault-from}
 

@@ -1,11 +1,7 @@
 // Numbers from bytes.
 ghost use mathlib.Core.Path.{_≡_};
-ghost use Prim.Native.Nat.{_%_};
-ghost use lib.ListN.{length};
-ghost use Rattle.std.specs.Of.Vec.{vec-items};
-ghost use Rattle.std.specs.Options.{Cases};
 ghost use Rattle.std.specs.Vec.{made};
-ghost use Rattle.files.specs.Bytes.{number-in, numbers-in, Numbers};
+ghost use Rattle.files.specs.Bytes.{number-in, Numbers};
 use std::alloc::AllocError;
 use std::alloc::Global;
 

@@ -1,6 +1,8 @@
 // Rows of events that fit a pattern: what they are, and how they are found.
 mod extension;
 mod finder;
+#[cfg(test)]
+mod finder_tests;
 mod held;
 mod insertion;
 mod lateness;

@@ -1,6 +1,5 @@
 use mathlib.Core.Path.{sym, ap, ap₂, _∙_}
 use mathlib.Core.List.{map, [], _∷_, _++_}
-use native.Mathlib.Omega.{arith}
 use lib.ListN.{length}
 use Rattle.std.proofs.shelf.Lists.{map-more, take-all}
 use Rattle.std.proofs.shelf.Tests.{eqb-true}

@@ -1,5 +1,3 @@
-use mathlib.Core.Path.{refl, sym}
-use mathlib.Core.Bool.{true, false}
 use Rattle.files.specs.Events.{fault-from}
 use Rattle.files.proofs.decoding.cut_off.Needs as need
 use borrow.Author.Needs.{needs}

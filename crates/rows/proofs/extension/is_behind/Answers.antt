@@ -1,12 +1,11 @@
-use mathlib.Core.Path.{_≡_, sym, ap, ap₂, _∙_}
-use mathlib.Core.Bool.{true, false, _&&_}
-use native.Mathlib.Omega.{arith}
+use mathlib.Core.Path.{_≡_, sym, ap, _∙_}
+use mathlib.Core.Bool.{true, false}
 use Prim.Native.Nat.{_+_, _<_}
 use lib.Dec.{leb}
 use lib.ListN.{getD}
 use borrow.Author.Needs.{needs}
 use Rattle.timeline.specs.Lists.{none-of}
-use Rattle.timeline.specs.Order.{before, last-of, first-of, nothing}
+use Rattle.timeline.specs.Order.{before, last-of, nothing}
 use Rattle.rows.proofs.Telling.{nth-is}
 use Rattle.rows.proofs.Passing.{none-of-is, window-end}
 use Rattle.rows.proofs.extension.is_behind.Needs as need

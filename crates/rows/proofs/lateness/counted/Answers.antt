@@ -1,12 +1,11 @@
-use mathlib.Core.Path.{_≡_, sym, ap, _∙_}
-use mathlib.Core.List.{[], _∷_, _++_}
+use mathlib.Core.Path.{sym, ap, _∙_}
 use Prim.Native.Nat.{max, _+_, _-_, _≤_, _<_}
 use native.Mathlib.Omega.{arith}
 use lib.ListN.{getD, drop}
 use Rattle.std.specs.Of.Vec.{vec-items}
 use Rattle.timeline.specs.Order.{latest, nothing}
 use Rattle.rows.specs.Known.{with-number, counted-after}
-use Rattle.rows.proofs.Counting.{Goes-to, latest-push, count-taken, count-late, count-over}
+use Rattle.rows.proofs.Counting.{latest-push, count-taken, count-late, count-over}
 use Rattle.rows.proofs.lateness.counted.Needs as need
 use Rattle.rows.proofs.lateness.counted.Needs.{then-e-saturating-sub·in-Continue-push, else-e-saturating-sub}
 
