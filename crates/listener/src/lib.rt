@@ -3,7 +3,11 @@ mod acts;
 mod entry;
 mod head;
 mod memory;
+#[cfg(test)]
+mod others;
 mod promise;
+#[cfg(test)]
+mod tests;
 mod turns;
 
 pub use acts::Told;
