@@ -14,3 +14,6 @@ mod SmallHeads
 mod Written
 mod Steadily
 mod Whole
+mod Doing
+mod Saying
+mod Entering

@@ -13,7 +13,7 @@ use Rattle.timeline.specs.Ring.{slot, events}
 use Rattle.patterns.specs.Patterns.{Pattern}
 use Rattle.rows.specs.SearchLaws.{begin-at}
 use Rattle.listener.specs.declared.head.Head.{Head}
-use Rattle.listener.specs.Machine.{room, a-head, settled-head, with-places, blank, latest-with, counting, len-with, telling-head, counted-head, ending-head}
+use Rattle.listener.specs.Machine.{Bounded, room, a-head, settled-head, with-places, blank, latest-with, counting, len-with, telling-head, counted-head, ending-head}
 use Rattle.listener.proofs.Fronts.{below-run-most}
 use Rattle.listener.proofs.Small.{Small, Smalls, no-places-small, Small-head}
 
@@ -51,14 +51,17 @@ pub places-put : (h : Head) (at : List ℕ) → Small-head h → Smalls at → S
 places-put h at s a =
     record { count = s .count; latest = s .latest; start = s .start; len = s .len; known = s .known; upto = s .upto; stale = s .stale; at = a }
 
--- the bounds of a state that the listener can have written
-pub record Bounded (h : Head) : Type 0 where
-  pub count : h .count < 4611686018427387904
-  pub len : h .len ≤ suc room
-  pub known : h .known ≤ h .len
-
 pub bounds : (h : Head) → a-head h ≡ true → Bounded h
-bounds h e = record { count = grind (arith, by-tests); len = grind (arith, by-tests); known = grind (arith, by-tests) }
+bounds h e =
+    record {
+      count = grind (arith, by-tests);
+      latest = grind (arith, by-tests);
+      start = grind (arith, by-tests);
+      len = grind (arith, by-tests);
+      known = grind (arith, by-tests);
+      upto = grind (arith, by-tests);
+      stale = grind (arith, by-tests);
+    }
 
 pub counted-small : (h : Head) → Bounded h → Small-head h → Small-head (counted-head h)
 counted-small h k s =

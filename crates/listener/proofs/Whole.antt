@@ -90,7 +90,7 @@ listens p fs ok es l =
 pub whole-proof : Whole own
 unfolding Whole
 whole-proof = (
-  steady,
+  steady-proof,
   listens,
   λ p bad. let t = tell-all own (λ m. Unit) (refused 1) tt [] (own .start) (begins p) [] (refuses p bad) in (1, t .0, t .1),
 )

@@ -6,7 +6,7 @@ use Prim.Native.Nat.{ℕ, suc, _+_, _≤_, _<_}
 use native.Mathlib.Omega.{arith}
 use lib.Dec.{eqb, ltb, leb}
 use lib.ListN.{length, getD, take, drop}
-use Rattle.std.proofs.shelf.Lists.{append-nil, drop-all, take-all, length-drop, drop-at, take-at, length-append, getD-append-left, take-append-drop, append-assoc, drop-drop}
+use Rattle.std.proofs.shelf.Lists.{append-nil, drop-append-le, take-append-le, drop-take, length-take, length-take-le, drop-all, take-all, length-drop, drop-at, take-at, length-append, getD-append-left, take-append-drop, append-assoc, drop-drop}
 use Rattle.std.proofs.shelf.Edits.{sets-eq}
 use lib.Seq.{sets}
 use borrow.Rule.Slice.PartMut.{putMid}
@@ -108,3 +108,12 @@ ring-given m r l = given-back 419 ring-long m r l
 
 pub lent-length : (m : List ℕ) → length m ≡ memory-long → length (take ring-long (drop 419 m)) ≡ ring-long
 lent-length m l = ap length (ring-lent m l) ∙ length-drop 419 m ∙ omega arith
+
+-- a memory with another ring
+pub cells-stay : (m r : List ℕ) → length m ≡ memory-long → cells-of (take 419 m ++ r) ≡ cells-of m
+cells-stay m r l =
+    ap (take 405) (drop-append-le 14 (take 419 m) r (omega (arith, length-take-le 419 m (omega arith)))) ∙ take-append-le 405 (drop 14 (take 419 m)) r (omega (arith, length-drop 14 (take 419 m), length-take-le 419 m (omega arith)))
+    ∙ ap (take 405) (drop-take 14 405 m) ∙ take-all 405 (take 405 (drop 14 m)) (omega (arith, length-take 405 (drop 14 m)))
+
+pub ring-there : (m r : List ℕ) → length m ≡ memory-long → ring-of (take 419 m ++ r) ≡ r
+ring-there m r l = drop-at (take 419 m) r 419 (length-take-le 419 m (omega arith))

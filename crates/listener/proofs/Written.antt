@@ -23,10 +23,10 @@ use Rattle.listener.specs.declared.head.Phase.{Phase}
 use Rattle.listener.specs.declared.head.Phase.the-variants.{Waiting, Telling, Over}
 use Rattle.listener.specs.declared.head.Head.{Head}
 use Rattle.listener.specs.declared.head.Turn.the-variants.{Late, Full, Counts}
-use Rattle.listener.specs.Machine.{memory-long, memory-of, room, phase-after, settled-head, with-places, told-or-settled, tell-from, stale-with, counting, hear, ring-with, telling-head, counted-head, turned, heard}
+use Rattle.listener.specs.Machine.{Bounded, memory-long, memory-of, room, phase-after, settled-head, with-places, told-or-settled, tell-from, stale-with, counting, hear, ring-with, telling-head, counted-head, turned, heard}
 use Rattle.listener.proofs.Words.{memory-length}
 use Rattle.listener.proofs.Small.{Small, Smalls, Small-event, put-in-small, forgotten-small, Small-head, memory-small}
-use Rattle.listener.proofs.SmallHeads.{settled-small, places-put, Bounded, counted-small, counting-small, telling-small, begin-small}
+use Rattle.listener.proofs.SmallHeads.{settled-small, places-put, counted-small, counting-small, telling-small, begin-small}
 use Rattle.listener.proofs.Cursors.{places-small}
 
 -- THE PARTS OF A MEMORY THAT IS WRITTEN

@@ -8,7 +8,7 @@ use lib.Dec.{eqb, leb}
 use lib.ListN.{length, getD, drop}
 use Rattle.timeline.specs.Lists.{pick}
 use Rattle.patterns.specs.Numbers.{pattern-in}
-use Rattle.listener.specs.Engine.{Told-it, begins, comes, ends, next, Act, tells, waits, late, over, refused}
+use Rattle.listener.specs.Engine.{Told-it, begins, comes, ends, next, Act, tells, waits, late, over, refused, Stepped}
 use Rattle.listener.specs.Machine.{own}
 use Rattle.listener.specs.declared.acts.Told.{Told}
 use Rattle.listener.specs.declared.acts.Told.the-variants.{Row, Waits, Late, Over, No}
@@ -26,6 +26,11 @@ Act-told waits t out out₁ = (t ≡ Waits) × (out₁ ≡ out)
 Act-told late t out out₁ = (t ≡ Late) × (out₁ ≡ out)
 Act-told over t out out₁ = (t ≡ Over) × (out₁ ≡ out)
 Act-told (refused k) t out out₁ = (t ≡ No k) × (out₁ ≡ out)
+
+-- a part of a step did what the machine does: the memory and the answer are its
+pub record Did (st : Stepped) (t : Told) (memory₁ out out₁ : List ℕ) : Type 0 where
+  pub memory : memory₁ ≡ st .memory
+  pub told : Act-told (st .act) t out out₁
 
 -- one step: for memories of the listener's own length, rows of up to 1,024 numbers, and a lent row of six or more; for others it is refused
 -- with 0, and nothing is changed

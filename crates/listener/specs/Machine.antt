@@ -3,7 +3,7 @@
 -- Assumes nothing: these are definitions.
 use mathlib.Core.Bool.{Bool, true, false, _&&_}
 use mathlib.Core.List.{List, [], _∷_, _++_}
-use Prim.Native.Nat.{ℕ, suc, _+_, _-_, _%_}
+use Prim.Native.Nat.{ℕ, suc, _+_, _-_, _%_, _<_, _≤_}
 use lib.Dec.{eqb, ltb, leb}
 use lib.ListN.{length, getD, take, drop, replicate}
 use Rattle.std.specs.declared.option.Option.{Option}
@@ -76,6 +76,29 @@ abbrev pub a-head : Head → Bool
 a-head h =
     ((ltb (h .count) 4611686018427387904 && ltb (h .latest) 4611686018427387904) && (ltb (h .start) capacity && leb (h .len) (suc room)))
     && (leb (h .known) (h .len) && (leb (h .upto) (h .len) && leb (h .stale) (h .len)))
+
+-- what such a state is known by
+pub record Bounded (h : Head) : Type 0 where
+  pub count : h .count < 4611686018427387904
+  pub latest : h .latest < 4611686018427387904
+  pub start : h .start < capacity
+  pub len : h .len ≤ suc room
+  pub known : h .known ≤ h .len
+  pub upto : h .upto ≤ h .len
+  pub stale : h .stale ≤ h .len
+
+-- what a state is known by in which rows are about to be told
+pub record Ready (h : Head) : Type 0 where
+  pub latest : h .latest < 4611686018427387904
+  pub start : h .start < capacity
+  pub len : h .len ≤ suc room
+  pub known : h .known ≤ h .len
+  pub stale : h .stale ≤ h .len
+
+abbrev pub Ready-turn : Turn → Type 0
+Ready-turn Late = Unit {0}
+Ready-turn Full = Unit {0}
+Ready-turn (Counts h b) = Ready h
 
 -- the state, where it is one and the phase is this
 unfoldable pub head-at : Phase → List ℕ → Option Head

@@ -1,7 +1,8 @@
 // The words in front of the memory: what the listener is doing, and where.
 ghost use mathlib.Core.Path.{_≡_};
 ghost use lib.ListN.{length};
-ghost use Rattle.listener.specs.Machine.{memory-long, phase-number, memory-of, head-of, cells-of, ring-of, a-head, head-at};
+ghost use Rattle.std.specs.Options.{Cases};
+ghost use Rattle.listener.specs.Machine.{memory-long, phase-number, memory-of, head-of, cells-of, ring-of, a-head, Bounded, head-at};
 use timeline::CAPACITY;
 
 // How many numbers the memory has; where the pattern and the ring begin in it.
@@ -116,7 +117,8 @@ impl Head {
     // The state, where it is one and the phase is this.
     pub fn in_phase(memory: &[u64], phase: Phase) -> Option<Head>
         requires { ⌜ length (now memory) ≡ memory-long ⌝ }
-        ensures { λ r. ⌜ r ≡ head-at phase (now (memory .entry)) ⌝ }
+        ensures value { λ r. ⌜ r ≡ head-at phase (now (memory .entry)) ⌝ }
+        ensures bound { λ r. ⌜ Cases r (Unit {0}) Bounded ⌝ }
     {
         let head = Head::load(memory);
         if memory[0] == phase.number() && head.holds() {

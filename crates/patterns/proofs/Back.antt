@@ -14,8 +14,8 @@ use Rattle.std.proofs.shelf.Ways.{tells}
 use Rattle.timeline.specs.Lists.{pick, every, each, none-of, run}
 use Rattle.timeline.proofs.Lists.{All, drop-front}
 use Rattle.patterns.specs.Patterns.{Test, Never, Step, Pattern}
-use Rattle.patterns.specs.Limits.{a-test, a-step, a-pattern}
-use Rattle.patterns.specs.Kept.{padded, test-cells, tests-cells, never-cells, nevers-cells, step-cells, pattern-cells, at-most, kept-test, kept-tests, kept-never, kept-nevers, step-place, kept-step, kept-pattern}
+use Rattle.patterns.specs.Limits.{a-test, a-pattern}
+use Rattle.patterns.specs.Kept.{padded, test-cells, tests-cells, never-cells, nevers-cells, step-cells, pattern-cells, at-most, kept-test, kept-tests, kept-never, kept-nevers, kept-pattern}
 use Rattle.patterns.specs.Reading.{a-never}
 use Rattle.patterns.proofs.Each.{Few, Placed, never-parts, step-parts, pattern-parts}
 use Rattle.patterns.proofs.May.{length-test}

@@ -9,11 +9,11 @@ use lib.ListN.{length}
 use Rattle.std.proofs.shelf.Tests.{and-parts, leb-true}
 use Rattle.timeline.specs.Lists.{every}
 use Rattle.timeline.proofs.Lists.{All}
-use Rattle.patterns.specs.Patterns.{Test, Never, Step, Pattern}
+use Rattle.patterns.specs.Patterns.{Never, Step, Pattern}
 use Rattle.patterns.specs.Limits.{a-test, some-tests, a-step, some-steps, a-pattern}
 use Rattle.patterns.specs.Reading.{a-never, some-nevers}
 
-pub each-of : {A : Type 0} (f : A → Bool) (xs : List A) → every f xs ≡ true → All (λ x. f x ≡ true) xs
+each-of : {A : Type 0} (f : A → Bool) (xs : List A) → every f xs ≡ true → All (λ x. f x ≡ true) xs
 unfolding every
 each-of f [] e = tt
 each-of f (x ∷ xs) e = let h = and-parts (f x) (every f xs) e in (h .0, each-of f xs (h .1))

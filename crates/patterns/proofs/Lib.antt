@@ -2,9 +2,10 @@ pub mod Runs
 pub mod Steps
 pub mod Back
 pub mod Words
-mod Tests
+mod Holds
 mod Laying
 mod Parts
 mod May
 mod Wholes
+pub mod Wholes
 mod Each

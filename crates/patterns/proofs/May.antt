@@ -1,5 +1,5 @@
 -- Which parts of a row may be: all of them together, from one to the next.
-use mathlib.Core.Path.{_≡_, refl, sym, ap, _∙_}
+use mathlib.Core.Path.{_≡_, refl}
 use mathlib.Core.Bool.{Bool, true, false, _&&_}
 use mathlib.Core.List.{List, [], _∷_}
 use Prim.Native.Nat.{ℕ, _+_, _≤_, _<_}
@@ -8,7 +8,7 @@ use native.Mathlib.Numerals.{add-one}
 use lib.Dec.{leb}
 use lib.ListN.{length, getD, set, drop}
 use lib.Seq.{sets}
-use Rattle.std.proofs.shelf.Tests.{and-parts, and-from, and-right, le-leb, lt-leb, leb-true}
+use Rattle.std.proofs.shelf.Tests.{and-from, and-right, le-leb, lt-leb}
 use Rattle.std.proofs.shelf.Ways.{tells}
 use Rattle.timeline.specs.Lists.{every, none-of}
 use Rattle.patterns.specs.Patterns.{Test, Step}
@@ -41,9 +41,6 @@ module _ {A : Type 0} (f : A → Bool) where
 
     pub few-enough : k ≤ most → every f xs ≡ true → (leb (length xs) most && every f xs) ≡ true
     few-enough l e = and-from (leb (length xs) most) _ (le-leb _ _ (rw long l)) e
-
-    pub at-most-so : (leb (length xs) most && every f xs) ≡ true → k ≤ most
-    at-most-so e = rw (sym long) (leb-true _ _ (and-parts (leb (length xs) most) (every f xs) e .0))
 
 as-test : (n w s o : ℕ) (st : List ℕ) → let t : Test = record { what = w; sign = s; step = st; other = o } in a-comparison n (comparison t) ≡ a-test n t
 unfolding every none-of

@@ -1,17 +1,14 @@
 -- The tests, nevers and steps of a row, one after the other, and how many there are.
-use mathlib.Core.Path.{_≡_, refl, sym, ap, _∙_}
-use mathlib.Core.Bool.{Bool, true, false}
+use mathlib.Core.Path.{_≡_, refl, ap}
 use mathlib.Core.List.{List, [], _∷_}
 use Prim.Native.Nat.{ℕ, zero, suc, _+_, _-_, _*_, _≤_, _<_}
 use native.Mathlib.Omega.{arith}
 use native.Mathlib.Nat.{add-zero}
 use lib.ListN.{length, getD, drop}
 use lib.Seq.{getD-drop, drop-drop}
-use Rattle.timeline.specs.Lists.{every}
-use Rattle.patterns.specs.Patterns.{Test, Never, Step}
 use Rattle.patterns.specs.Numbers.{tests-in, nevers-in, nevers-long, steps-in}
 use Rattle.patterns.specs.Kept.{kept-test}
-use Rattle.patterns.specs.Reading.{tests-end, never-at, never-end, step-at, step-end}
+use Rattle.patterns.specs.Reading.{never-at, never-end, step-at, step-end}
 
 module _ (row : List ℕ) (many i : ℕ) where
   pub tests-more : (pos : ℕ) → i < many → tests-in (many - i) (drop (pos + 5 * i) row) ≡ kept-test row (pos + 5 * i) ∷ tests-in (many - (i + 1)) (drop (pos + 5 * (i + 1)) row)

@@ -1,8 +1,8 @@
 -- A never and a step from their parts: which may be, where they end, and their words.
 use mathlib.Core.Path.{_≡_, refl, sym, ap, _∙_}
-use mathlib.Core.Bool.{Bool, true, false, _&&_}
-use mathlib.Core.List.{List, _∷_, _++_}
-use Prim.Native.Nat.{ℕ, suc, _+_, _*_, _≤_, _<_}
+use mathlib.Core.Bool.{Bool, true, false}
+use mathlib.Core.List.{List, _++_}
+use Prim.Native.Nat.{ℕ, suc, _+_, _≤_, _<_}
 use native.Mathlib.Omega.{arith}
 use lib.Dec.{ltb}
 use lib.ListN.{length, getD, set, length-append}
@@ -13,8 +13,8 @@ use Rattle.std.proofs.shelf.Tests.{lt-ltb}
 use Rattle.std.proofs.shelf.Ways.{tells}
 use Rattle.patterns.specs.Patterns.{Test, Never, Step}
 use Rattle.patterns.specs.Limits.{some-tests, a-step}
-use Rattle.patterns.specs.Kept.{padded, tests-cells, never-cells, nevers-cells, step-cells}
-use Rattle.patterns.specs.Reading.{tests-at, tests-end, never-at, nevers-at, nevers-end, step-at, a-never, some-nevers, Laid}
+use Rattle.patterns.specs.Kept.{tests-cells, never-cells, nevers-cells, step-cells}
+use Rattle.patterns.specs.Reading.{tests-at, tests-end, never-at, nevers-at, step-at, a-never, some-nevers, Laid}
 use Rattle.patterns.proofs.Laying.{sets-append, sets-cons, padded-long}
 use Rattle.patterns.proofs.May.{length-test}
 
@@ -32,7 +32,7 @@ pub length-never-cells : (v : Never) → length (never-cells v) ≡ 22
 unfolding never-cells
 length-never-cells v = ap suc (length-tests-cells (v .tests))
 
-pub length-nevers-cells : (vs : List Never) → length (nevers-cells vs) ≡ 45
+length-nevers-cells : (vs : List Never) → length (nevers-cells vs) ≡ 45
 unfolding nevers-cells
 length-nevers-cells vs = ap suc (padded-long 22 2 never-cells length-never-cells 2 vs)
 

@@ -1,5 +1,6 @@
 // What tests compare, and how: fields and signs, and the numbers that they have in a pattern.
 ghost use mathlib.Core.Path.{_≡_};
+ghost use Prim.Native.Nat.{ℕ};
 ghost use Rattle.patterns.specs.Patterns.{field, compared};
 ghost use Rattle.patterns.specs.Codes.{field-numbered, field-number, sign-numbered, sign-number};
 use timeline::Event;
@@ -14,7 +15,8 @@ pub enum Field {
 impl Field {
     // 0 is who, 1 the value, any other the time.
     pub fn numbered(number: u64) -> Field
-        ensures { λ r. ⌜ r ≡ field-numbered number ⌝ }
+        ensures same { λ r. ⌜ r ≡ field-numbered number ⌝ }
+        ensures means { λ r. ⌜ ((e : Event) → field e (field-number r) ≡ field e number) ⌝ }
     {
         match number {
             0 => Field::Who,
@@ -44,7 +46,8 @@ pub enum Sign {
 impl Sign {
     // 0 is equal, 1 below, any other not below.
     pub fn numbered(number: u64) -> Sign
-        ensures { λ r. ⌜ r ≡ sign-numbered number ⌝ }
+        ensures same { λ r. ⌜ r ≡ sign-numbered number ⌝ }
+        ensures means { λ r. ⌜ ((a b : ℕ) → compared (sign-number r) a b ≡ compared number a b) ⌝ }
     {
         match number {
             0 => Sign::Equal,

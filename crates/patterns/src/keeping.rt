@@ -4,7 +4,7 @@ use crate::layout::PATTERN_WORDS;
 use crate::reading::lay_pattern;
 
 // Why a row is not kept.
-#[derive(Clone, Copy)]
+#[derive(Clone, Copy, PartialEq, Eq, Debug)]
 pub enum Refusal {
     // It says no pattern that may be.
     NoPattern,

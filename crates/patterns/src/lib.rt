@@ -7,6 +7,8 @@ mod laws;
 mod layout;
 mod named;
 mod reading;
+#[cfg(test)]
+mod tests;
 mod tries;
 
 pub use fields::Field;

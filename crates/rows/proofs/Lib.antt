@@ -1,5 +1,11 @@
 pub mod Order
 pub mod Rows
+mod Eaches
+mod Passing
+mod Flats
+mod Counting
+mod Inserted
+mod Telling
 mod Reach
 mod Same
 mod Enough

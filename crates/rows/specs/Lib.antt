@@ -8,3 +8,5 @@ pub mod Finding
 pub mod SearchLaws
 pub mod Fitting
 pub mod Sorted
+pub mod Finder
+pub mod Night

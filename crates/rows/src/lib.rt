@@ -6,7 +6,20 @@ mod search;
 mod searched;
 #[cfg(test)]
 mod tests;
+mod extension;
+mod finder;
+mod insertion;
+mod lateness;
+mod laws;
+mod night;
+mod search;
+mod searched;
+mod told;
 
+pub use finder::FindError;
+pub use finder::find_all;
+pub use finder::find_counted;
+pub use lateness::counted;
 pub use laws::all_that_fit;
 pub use laws::ends_held;
 pub use laws::grows;
@@ -23,6 +36,7 @@ pub use laws::sorted_keeps;
 pub use laws::sorted_right;
 pub use laws::sorted_rises;
 pub use laws::told_once;
+pub use night::worked_night;
 pub use search::Cursor;
 pub use search::Found;
 pub use search::next_row;

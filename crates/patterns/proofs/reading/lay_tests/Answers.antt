@@ -1,5 +1,5 @@
 use mathlib.Core.Path.{_≡_, refl, sym, ap, _∙_}
-use mathlib.Core.Bool.{Bool, true, false}
+use mathlib.Core.Bool.{true, false}
 use Prim.Native.Nat.{_+_, _-_, _*_}
 use lib.ListN.{length, drop}
 use lib.Seq.{sets}
@@ -7,7 +7,7 @@ use native.Mathlib.Omega.{arith}
 use Rattle.patterns.specs.Limits.{a-test}
 use Rattle.patterns.specs.Numbers.{tests-in}
 use Rattle.patterns.specs.Kept.{kept-test, padded, test-cells, tests-cells}
-use Rattle.patterns.specs.Reading.{comparison, a-comparison, comparison-cells}
+use Rattle.patterns.specs.Reading.{a-comparison, comparison-cells}
 use Rattle.patterns.proofs.Laying.{lay-one, lay-rest, counted}
 use Rattle.patterns.proofs.Parts.{tests-more, no-tests, length-tests}
 use Rattle.patterns.proofs.May.{every-turn, every-fail, every-done, too-many, not-every, few-enough, comparison-may, comparison-words, length-test}

@@ -1,4 +1,4 @@
-use Rattle.patterns.proofs.Tests.{nth-in, nth-past}
+use Rattle.patterns.proofs.Holds.{nth-in, nth-past}
 use Rattle.patterns.proofs.tries.earlier_event.Needs as need
 
 pub returns-then-i-earlier : need.returns-then-i-earlier

@@ -1,7 +1,7 @@
-use mathlib.Core.Path.{_≡_, refl, sym, _∙_}
+use mathlib.Core.Path.{_∙_}
 use Prim.Native.Nat.{_+_}
 use lib.ListN.{getD}
-use Rattle.patterns.proofs.Tests.{take-one}
+use Rattle.patterns.proofs.Holds.{take-one}
 use Rattle.patterns.proofs.comparing.Comparison.read.Needs as need
 
 pub returns : need.returns

@@ -3,7 +3,7 @@ use Prim.Native.Nat.{_+_, _≤_}
 use native.Mathlib.Omega.{arith}
 use Rattle.std.proofs.shelf.Tests.{ltb-false}
 use Rattle.patterns.specs.Kept.{step-place}
-use Rattle.patterns.proofs.Tests.{no-step-fits}
+use Rattle.patterns.proofs.Holds.{no-step-fits}
 use Rattle.patterns.proofs.kept.Kept.fits.Needs as need
 
 pub returns-then-not-has-room : need.returns-then-not-has-room

@@ -1,11 +1,11 @@
-use mathlib.Core.Path.{_≡_, sym, ap, _∙_}
+use mathlib.Core.Path.{sym, ap, _∙_}
 use Prim.Native.Nat.{_+_, _*_}
 use lib.Dec.{eqb}
 use Rattle.std.proofs.shelf.Tests.{eq-eqb, ne-eqb}
 use Rattle.timeline.specs.Lists.{any}
 use Rattle.patterns.specs.Kept.{kept-never, step-place}
 use Rattle.patterns.proofs.Runs.{any-stop, any-more, any-end}
-use Rattle.patterns.proofs.Tests.{nevers-all}
+use Rattle.patterns.proofs.Holds.{nevers-all}
 use Rattle.patterns.proofs.kept.Kept.has_never_of.Needs as need
 
 pub loop-i-holds : need.loop-i-holds

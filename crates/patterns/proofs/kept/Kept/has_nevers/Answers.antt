@@ -1,6 +1,6 @@
 use Prim.Native.Nat.{_+_}
 use Rattle.patterns.specs.Kept.{step-place}
-use Rattle.patterns.proofs.Tests.{nevers-some}
+use Rattle.patterns.proofs.Holds.{nevers-some}
 use Rattle.patterns.proofs.kept.Kept.has_nevers.Needs as need
 
 pub returns : need.returns

@@ -1,10 +1,10 @@
-use mathlib.Core.Path.{_≡_, sym, ap, _∙_}
+use mathlib.Core.Path.{sym, ap, _∙_}
 use Prim.Native.Nat.{_+_, _*_}
 use Rattle.timeline.specs.Lists.{any}
 use Rattle.patterns.specs.Patterns.{fits-step}
 use Rattle.patterns.specs.Kept.{kept-never, step-place}
 use Rattle.patterns.proofs.Runs.{any-stop, any-more, any-end}
-use Rattle.patterns.proofs.Tests.{nevers-all}
+use Rattle.patterns.proofs.Holds.{nevers-all}
 use Rattle.patterns.proofs.kept.Kept.hit.Needs as need
 
 pub loop-i-holds : need.loop-i-holds

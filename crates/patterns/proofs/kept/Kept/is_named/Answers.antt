@@ -1,4 +1,4 @@
-use mathlib.Core.Path.{_≡_, sym, ap, _∙_}
+use mathlib.Core.Path.{sym, ap, _∙_}
 use Rattle.timeline.specs.Lists.{any}
 use Rattle.patterns.specs.Named.{step-names}
 use Rattle.patterns.specs.Kept.{kept-step}

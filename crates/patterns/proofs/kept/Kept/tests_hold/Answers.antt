@@ -1,10 +1,10 @@
-use mathlib.Core.Path.{_≡_, sym, ap, _∙_}
+use mathlib.Core.Path.{sym, ap, _∙_}
 use Prim.Native.Nat.{_+_, _*_}
 use Rattle.timeline.specs.Lists.{every}
 use Rattle.patterns.specs.Patterns.{holds}
 use Rattle.patterns.specs.Kept.{kept-test}
 use Rattle.patterns.proofs.Runs.{every-stop, every-more, every-end}
-use Rattle.patterns.proofs.Tests.{tests-all}
+use Rattle.patterns.proofs.Holds.{tests-all}
 use Rattle.patterns.proofs.kept.Kept.tests_hold.Needs as need
 
 pub loop-i-holds : need.loop-i-holds

@@ -1,5 +1,5 @@
 -- Tests as they are kept, and what they come to.
-use mathlib.Core.Path.{_≡_, refl, sym, ap, _∙_}
+use mathlib.Core.Path.{_≡_, refl}
 use mathlib.Core.Bool.{not}
 use mathlib.Core.List.{List, [], _∷_}
 use Prim.Native.Nat.{ℕ, zero, suc, _+_, _-_, _*_, _≤_, _<_}
@@ -11,16 +11,8 @@ use Rattle.std.proofs.shelf.Ways.{tells}
 use Rattle.timeline.specs.declared.events.Event.{Event}
 use Rattle.timeline.specs.Lists.{every, each, run, none-of}
 use Rattle.timeline.specs.Order.{nothing, nth}
-use Rattle.patterns.specs.Patterns.{Test, field, compared, other-side, fits-step}
-use Rattle.patterns.specs.Codes.{field-number, field-numbered, sign-number, sign-numbered}
+use Rattle.patterns.specs.Patterns.{field, other-side, fits-step}
 use Rattle.patterns.specs.Kept.{at-most, kept-test, kept-tests, kept-never, kept-nevers, step-place, kept-step}
-
--- a number is read as a field or a sign that means the same
-pub field-read : (e : Event) (n : ℕ) → field e (field-number (field-numbered n)) ≡ field e n
-field-read e n = grind (arith, tells)
-
-pub sign-read : (n a b : ℕ) → compared (sign-number (sign-numbered n)) a b ≡ compared n a b
-sign-read n a b = grind (arith, tells)
 
 -- the nth event of a list
 pub nth-in : (es : List Event) (i : ℕ) (d : Event) → i < length es → getD es i d ≡ nth es i
@@ -59,7 +51,7 @@ unfolding kept-nevers
 nevers-all c n m e = let d : m - 0 ≡ m = omega arith in rw (d, e) refl
 
 -- where the count is 0 there are none
-pub tests-none : (c : List ℕ) (n : ℕ) → getD c n 0 ≡ 0 → kept-tests c n ≡ []
+tests-none : (c : List ℕ) (n : ℕ) → getD c n 0 ≡ 0 → kept-tests c n ≡ []
 unfolding kept-tests each run
 tests-none c n e = rw e refl
 
