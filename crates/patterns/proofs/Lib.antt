@@ -7,5 +7,4 @@ mod Laying
 mod Parts
 mod May
 mod Wholes
-pub mod Wholes
 mod Each

@@ -45,7 +45,7 @@ module _ {A B : Type 0} where
   each-pick f true xs = refl
   each-pick f false xs = refl
 
-  flat-append : (g : A → List B) (xs ys : List A) → flat g (xs ++ ys) ≡ flat g xs ++ flat g ys
+  pub flat-append : (g : A → List B) (xs ys : List A) → flat g (xs ++ ys) ≡ flat g xs ++ flat g ys
   unfolding flat
   flat-append g [] ys = refl
   flat-append g (x ∷ xs) ys = ap (λ r. g x ++ r) (flat-append g xs ys) ∙ sym (append-assoc (g x) (flat g xs) (flat g ys))

@@ -1,19 +1,16 @@
 // Rows of events that fit a pattern: what they are, and how they are found.
+mod extension;
+mod finder;
 mod held;
+mod insertion;
+mod lateness;
 mod laws;
 mod levels;
+mod night;
 mod search;
 mod searched;
 #[cfg(test)]
 mod tests;
-mod extension;
-mod finder;
-mod insertion;
-mod lateness;
-mod laws;
-mod night;
-mod search;
-mod searched;
 mod told;
 
 pub use finder::FindError;
