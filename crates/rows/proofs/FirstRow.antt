@@ -12,9 +12,9 @@ use Rattle.timeline.specs.Order.{nothing, nth}
 use Rattle.patterns.specs.Patterns.{Pattern}
 use Rattle.patterns.specs.Kept.{kept-count, kept-pattern}
 use Rattle.patterns.proofs.Steps.{steps-long}
-use Rattle.rows.specs.Held.{held, how-many, Along}
+use Rattle.rows.specs.Held.{held, how-many, Along, six-of}
 use Rattle.rows.specs.Search.{chosen}
-use Rattle.rows.specs.Finding.{row-ok, row-hi, to-come, six-of, behind, found-first, placed, next-found}
+use Rattle.rows.specs.Finding.{row-ok, row-hi, to-come, behind, found-first, placed, next-found}
 use Rattle.rows.specs.declared.search.Cursor.{Cursor}
 use Rattle.rows.specs.declared.search.Found.{Found}
 use Rattle.rows.proofs.Decoded.{length-held}

@@ -7,10 +7,10 @@ use lib.ListN.{length, getD, take, drop}
 use Rattle.timeline.specs.declared.events.Event.{Event}
 use Rattle.timeline.specs.Lists.{each}
 use Rattle.timeline.specs.Order.{nothing, nth}
-use Rattle.rows.specs.Held.{Along}
+use Rattle.rows.specs.Held.{Along, six-of}
 use Rattle.rows.specs.Known.{numbers}
 use Rattle.rows.specs.Search.{chosen}
-use Rattle.rows.specs.Finding.{row-of, six, six-of}
+use Rattle.rows.specs.Finding.{row-of, six}
 use Rattle.rows.proofs.Chosen.{chosen-forward}
 
 module _ (h : List Event) (row : List Event) (a b c d e f : ℕ) where

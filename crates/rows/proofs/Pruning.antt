@@ -15,8 +15,9 @@ use Rattle.timeline.proofs.Lists.{all-any, those-none, clash}
 use Rattle.patterns.specs.Patterns.{Step, Pattern, fits-step}
 use Rattle.patterns.specs.Kept.{kept-step, kept-count, kept-pattern}
 use Rattle.patterns.proofs.Steps.{steps-long}
+use Rattle.rows.specs.Held.{level-step}
 use Rattle.rows.specs.Search.{paths, Barren, chosen, forward}
-use Rattle.rows.specs.Finding.{fits, step-of, level-step, row-ok, row-lo, row-hi, space}
+use Rattle.rows.specs.Finding.{fits, step-of, row-ok, row-lo, row-hi, space}
 use Rattle.rows.proofs.Picks.{and-false}
 use Rattle.rows.proofs.Chosen.{length-chosen}
 use Rattle.rows.proofs.Steps.{kept-at}

@@ -14,9 +14,9 @@ use Rattle.timeline.specs.declared.events.Event.{Event}
 use Rattle.timeline.specs.Order.{nothing, nth}
 use Rattle.timeline.proofs.Lists.{clash}
 use Rattle.patterns.specs.Patterns.{Pattern}
-use Rattle.rows.specs.Held.{Along}
+use Rattle.rows.specs.Held.{Along, six-of}
 use Rattle.rows.specs.Search.{Space, chosen}
-use Rattle.rows.specs.Finding.{row-ok, row-hi, space, to-come, six-of, behind, found-first}
+use Rattle.rows.specs.Finding.{row-ok, row-hi, space, to-come, behind, found-first}
 use Rattle.rows.specs.declared.search.Cursor.{Cursor}
 use Rattle.rows.proofs.Chosen.{chosen-set, Placed}
 use Rattle.rows.proofs.Arrays.{Came, to-do, went-back, went-to, went-on, went-down, way-found, none-left}

@@ -8,7 +8,7 @@ use lib.Dec.{eqb, ltb, leb}
 use lib.ListN.{length, getD, set, take, drop}
 use Rattle.timeline.specs.declared.events.Event.{Event}
 use Rattle.timeline.specs.Lists.{pick, any, every, each, none-of, run}
-use Rattle.timeline.specs.Order.{nothing, nth}
+use Rattle.timeline.specs.Order.{nth}
 use Rattle.patterns.specs.Patterns.{Step, Pattern, fits-step}
 use Rattle.rows.specs.Known.{numbers}
 use Rattle.rows.specs.Search.{Space, rest, chosen, forward}
@@ -36,10 +36,6 @@ unfoldable pub step-of : List Step → ℕ → Step
 step-of [] n = no-step
 step-of (s ∷ ss) zero = s
 step-of (s ∷ ss) (suc n) = step-of ss n
-
--- which step a depth chooses for, of k steps
-abbrev pub level-step : ℕ → ℕ → ℕ
-level-step k d = pick (eqb d 0) (k - 1) (d - 1)
 
 -- which position may be chosen at a level: the last event's by its kind alone while others have to be chosen before it can be tried whole
 unfoldable pub row-ok : List Event → ℕ → List Step → List ℕ → ℕ → Bool
@@ -73,14 +69,6 @@ row-of h path = each (nth h) (drop 1 (forward path)) ++ each (nth h) (take 1 (fo
 -- six numbers, 0 where there are fewer
 abbrev pub six : List ℕ → List ℕ
 six xs = take 6 (xs ++ 0 ∷ 0 ∷ 0 ∷ 0 ∷ 0 ∷ 0 ∷ [])
-
--- the number told at a place, of a row of k events whose last stands first
-abbrev pub number-at : List Event → ℕ → ℕ → ℕ
-number-at row k j = pick (ltb (j + 1) k) (getD row (j + 1) nothing .heard) (pick (eqb (j + 1) k) (getD row 0 nothing .heard) 0)
-
--- all six, 0 behind the row
-abbrev pub six-of : List Event → ℕ → List ℕ
-six-of row k = number-at row k 0 ∷ number-at row k 1 ∷ number-at row k 2 ∷ number-at row k 3 ∷ number-at row k 4 ∷ number-at row k 5 ∷ []
 
 -- the cursor behind a row: its positions, the one chosen last raised by one
 abbrev pub behind : ℕ → List ℕ → Cursor

@@ -1,7 +1,6 @@
 use mathlib.Core.Path.{ap, _∙_}
 use Rattle.patterns.specs.Kept.{kept-step}
-use Rattle.rows.specs.Held.{held}
-use Rattle.rows.specs.Finding.{level-step}
+use Rattle.rows.specs.Held.{held, level-step}
 use Rattle.rows.proofs.Pruning.{kept-kind-not}
 use Rattle.rows.proofs.levels.Search.next_candidate.Needs as need
 
