@@ -27,7 +27,7 @@ fn step_named(letter: u8, names: &[u64]) -> Option<u64>
     ensures { λ r. ⌜ r ≡ step-named letter (now (names .entry)) ⌝ }
 {
     for i in 0..names.len() {
-        if names[i] == u64::from(letter) {
+        if names[i] == letter as u64 {
             return Some(i as u64);
         }
     }
