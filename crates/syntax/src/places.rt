@@ -9,7 +9,7 @@ pub struct Head {
     pub never: bool,
     pub kind: u64,
     // Its letter; 0 of a never that has none.
-    pub name: u64,
+    pub name: u8,
 }
 
 // What a number is of.

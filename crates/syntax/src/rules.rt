@@ -58,7 +58,7 @@ fn begin_name(never: bool, kind: u64, names: &[u64], byte: u8) -> Option<Move>
     let head = Head {
         never,
         kind,
-        name: u64::from(byte),
+        name: byte,
     };
     Some(Move::to(Stand::At(Place::Named(head))))
 }
@@ -91,7 +91,7 @@ fn begin_part(head: Head, part: Part, names: &[u64], byte: u8) -> Option<Move>
     ensures { λ r. ⌜ r ≡ begins-part head part (now (names .entry)) byte ⌝ }
 {
     match part {
-        Part::Own if u64::from(byte) == head.name => {
+        Part::Own if byte == head.name => {
             Some(Move::to(Stand::At(Place::Testing(head, Part::OwnDot))))
         }
         Part::Own => None,
