@@ -14,8 +14,25 @@ use Rattle.syntax.specs.declared.places.Stand.{Stand}
 use Rattle.syntax.specs.declared.places.Stand.the-variants.{At, Rest, Digits}
 use Rattle.syntax.specs.declared.expects.Expected.{Expected}
 use Rattle.syntax.specs.declared.expects.Expected.the-variants.{
-  KindOrNot, KindNotOrWithin, Kind, Within, Name, NameOrEnd, WhereOrEnd, OwnName, Dot, Field, Sign, OnlyNumber, NumberOrName, AndOrEnd, End,
-  LengthOfTime, Late, Nothing, RestOf,
+  KindOrNot,
+  KindNotOrWithin,
+  Kind,
+  Within,
+  Name,
+  NameOrEnd,
+  WhereOrEnd,
+  OwnName,
+  Dot,
+  Field,
+  Sign,
+  OnlyNumber,
+  NumberOrName,
+  AndOrEnd,
+  End,
+  LengthOfTime,
+  Late,
+  Nothing,
+  RestOf,
 }
 
 abbrev pub expects-item : ℕ → ℕ → Expected

@@ -5,3 +5,4 @@ pub mod Expects
 pub mod Cells
 pub mod Rows
 pub mod Reading
+pub mod Drafts

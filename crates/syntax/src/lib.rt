@@ -1,5 +1,7 @@
 // Patterns as they are typed: read, with the byte at which a text is wrong and what could have stood there, and written.
 mod cells;
+mod drafts;
+mod drawing;
 mod ends;
 mod expects;
 mod limits;

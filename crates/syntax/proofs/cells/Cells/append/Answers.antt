@@ -10,4 +10,7 @@ pub returns : need.returns
 returns c =
     let s = c .args .self .now in
     let e = c .copy-from-slice .ensures .after in
-    (take-putMid (s .len) _ (s .cells) (c .copy-from-slice .last .self) (s .len + length (c .args .more .now)) (ap (λ ys. s .len + length ys) (sym e)) (omega arith) ∙ ap (λ ys. take (s .len) (s .cells) ++ ys) e, refl)
+    record {
+      value = take-putMid (s .len) _ (s .cells) (c .copy-from-slice .last .self) (s .len + length (c .args .more .now)) (ap (λ ys. s .len + length ys) (sym e)) (omega arith) ∙ ap (λ ys. take (s .len) (s .cells) ++ ys) e;
+      len = refl;
+    }
