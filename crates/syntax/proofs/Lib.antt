@@ -1,2 +1,7 @@
 mod Looking
 mod Growing
+mod Sound
+mod Adding
+mod Fitting
+mod Room
+mod Staying
