@@ -6,3 +6,4 @@ pub mod Cells
 pub mod Rows
 pub mod Reading
 pub mod Drafts
+pub mod Readers

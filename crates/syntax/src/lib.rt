@@ -7,8 +7,17 @@ mod expects;
 mod limits;
 mod moves;
 mod places;
+mod readers;
+mod reading;
+mod reads;
+mod refusals;
 mod rows;
 mod rules;
 mod slots;
 mod steps;
 mod words;
+
+pub use expects::Expected;
+pub use reading::read;
+pub use refusals::Refusal;
+pub use words::Word;
