@@ -5,3 +5,5 @@ mod Adding
 mod Fitting
 mod Room
 mod Staying
+mod Back
+mod Meaning

@@ -18,7 +18,7 @@ use Rattle.syntax.specs.Reading.{Built}
 use Rattle.syntax.specs.Drafts.{Drawn, Roomy}
 use Rattle.syntax.proofs.Sound.{Fine}
 
-tests-long : (ts : List Test) → length (flat test-cells ts) ≡ 5 * length ts
+pub tests-long : (ts : List Test) → length (flat test-cells ts) ≡ 5 * length ts
 unfolding flat test-cells
 tests-long [] = refl
 tests-long (t ∷ ts) = let ih = tests-long ts in omega arith

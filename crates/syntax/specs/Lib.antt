@@ -7,3 +7,4 @@ pub mod Rows
 pub mod Reading
 pub mod Drafts
 pub mod Readers
+pub mod Laws

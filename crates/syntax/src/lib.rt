@@ -4,6 +4,7 @@ mod drafts;
 mod drawing;
 mod ends;
 mod expects;
+mod laws;
 mod limits;
 mod moves;
 mod places;
@@ -18,6 +19,7 @@ mod steps;
 mod words;
 
 pub use expects::Expected;
+pub use laws::read_may_be;
 pub use reading::read;
 pub use refusals::Refusal;
 pub use words::Word;

@@ -1,0 +1,8 @@
+// Laws of typed patterns: what each answers is of no account, what it ensures holds.
+ghost use Rattle.syntax.specs.Laws.{Read-may-be};
+
+pub fn read_may_be() -> u8
+    ensures { λ _. ⌜ Read-may-be ⌝ }
+{
+    0
+}
