@@ -4,17 +4,25 @@ use mathlib.Core.Bool.{true}
 use mathlib.Core.List.{List, [], _∷_}
 use Prim.Native.Nat.{ℕ, _+_, _≤_, _<_}
 use native.Mathlib.Omega.{arith}
-use lib.ListN.{length}
+use lib.ListN.{length, take, drop}
 use Rattle.std.specs.declared.option.Option.{Option}
 use Rattle.std.specs.declared.option.Option.the-variants.{Some, None}
+use Rattle.std.specs.declared.result.Result.{Result}
+use Rattle.std.specs.declared.result.Result.the-variants.{Ok, Err}
+use Rattle.std.specs.Vec.{made}
+use Rattle.std.proofs.shelf.Lists.{take-at}
 use Rattle.std.proofs.shelf.Tests.{and-from, lt-ltb, le-leb}
 use Rattle.patterns.specs.Patterns.{Pattern}
 use Rattle.patterns.specs.Limits.{a-pattern}
+use Rattle.patterns.specs.Numbers.{pattern-in}
 use Rattle.syntax.specs.declared.places.Place.the-variants.{Item, Number, StepName, NeverName, Named, Testing, Tested, LateWord, Whole}
 use Rattle.syntax.specs.declared.places.Stand.{Stand}
 use Rattle.syntax.specs.declared.places.Stand.the-variants.{At, Rest, Digits}
+use Rattle.syntax.specs.declared.refusals.Refusal.{Refusal}
 use Rattle.syntax.specs.declared.expects.Expected.{Expected}
-use Rattle.syntax.specs.Reading.{Built, State, Reading, means, refused, settled, ready, next, wanted, whole, by-some, ended, runs}
+use Rattle.syntax.specs.Reading.{Built, State, Reading, means, refused, settled, ready, next, wanted, whole, by-some, ended, runs, begun, reads}
+use Rattle.syntax.specs.Rows.{pattern-row}
+use Rattle.syntax.specs.Readers.{Gives}
 use Rattle.syntax.specs.Laws.{Read-may-be}
 use Rattle.syntax.proofs.Sound.{Fine, Fine-stand, Sound}
 use Rattle.syntax.proofs.Staying.{sound-begun, sound-settled, sound-ready, sound-next}
@@ -51,6 +59,16 @@ run-fine (b ∷ bs) at s p h e = by (next b (ready b s)) refl e (λ t. run-fine 
     by None g k rec = no-pattern at _ p k
     by (Some t) g k rec = rec t (sound-next b (ready b s) t (sound-ready b s h) g) k
 
+pub meant-may-be : (text : List ℕ) (p : Pattern) → reads text ≡ means p → a-pattern p ≡ true
+meant-may-be text p e = run-fine text 0 begun p sound-begun e
+
 pub read-may-be : Read-may-be
 unfolding Read-may-be
-read-may-be = λ text p e. let ok = run-fine text 0 _ p sound-begun e in (ok, pattern-back p ok)
+read-may-be = λ text p e. let ok = meant-may-be text p e in (ok, pattern-back p ok)
+
+-- the numbers that are given say a pattern that may be
+pub given-may-be : (p : Pattern) (before after : List ℕ) (r : Result ℕ Refusal) → a-pattern p ≡ true → Gives p before after r → made r (λ n. a-pattern (pattern-in (take n after)) ≡ true)
+given-may-be p before after (Ok n) ok h =
+    let row : take n after ≡ pattern-row p = ap (take n) (h .row) ∙ take-at (pattern-row p) (drop n before) n (sym (h .long)) in
+    ap (λ xs. a-pattern (pattern-in xs)) row ∙ ap a-pattern (pattern-back p ok) ∙ ok
+given-may-be p before after (Err e) ok h = tt

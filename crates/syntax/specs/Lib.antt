@@ -8,3 +8,4 @@ pub mod Reading
 pub mod Drafts
 pub mod Readers
 pub mod Laws
+pub mod Typed

@@ -1,7 +1,11 @@
 // A text read: its pattern's numbers in a lent row, or the byte at which no pattern can go on.
 ghost use mathlib.Core.Path.{_≡_};
 ghost use Prim.Native.Nat.{_<_};
-ghost use lib.ListN.{length};
+ghost use mathlib.Core.Bool.{true};
+ghost use lib.ListN.{length, take};
+ghost use Rattle.std.specs.Vec.{made};
+ghost use Rattle.patterns.specs.Limits.{a-pattern};
+ghost use Rattle.patterns.specs.Numbers.{pattern-in};
 ghost use Rattle.syntax.specs.Reading.{Built, reads};
 ghost use Rattle.syntax.specs.Drafts.{Drawn, Roomy};
 ghost use Rattle.syntax.specs.Readers.{Gives, Answers};
@@ -31,7 +35,8 @@ fn give(draft: &Draft, within: u64, late: u64, out: &mut [u64]) -> Result<usize,
 
 // The text's pattern, as numbers at the front of the lent row: how many there are. A refusal leaves the row as it was.
 pub fn read(text: &[u8], out: &mut [u64]) -> Result<usize, Refusal>
-    ensures { λ r. ⌜ Answers (reads (now (text .entry))) (now (out .entry)) (now (out .exit)) r ⌝ }
+    ensures answer { λ r. ⌜ Answers (reads (now (text .entry))) (now (out .entry)) (now (out .exit)) r ⌝ }
+    ensures pattern { λ r. ⌜ made r (λ n. a-pattern (pattern-in (take n (now (out .exit)))) ≡ true) ⌝ }
 {
     let mut reader = Reader::new();
     for i in 0..text.len() {

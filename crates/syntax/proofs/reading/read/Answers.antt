@@ -6,6 +6,7 @@ use Rattle.syntax.specs.Readers.{Stands}
 use Rattle.syntax.proofs.Sound.{Sound}
 use Rattle.syntax.proofs.Room.{roomy}
 use Rattle.syntax.proofs.Staying.{sound-begun, sound-settled, sound-ready, sound-next, left-on, left-refused, left-none, answered-at, ended-whole, ended-not}
+use Rattle.syntax.proofs.Meaning.{meant-may-be, given-may-be}
 use Rattle.syntax.proofs.reading.read.Needs as need
 
 pub loop-i-holds : need.loop-i-holds
@@ -32,7 +33,12 @@ returns-then-not-next c =
     let inv = c .loop-i .inv in
     let b = getD (c .args .text .now) (c .loop-i .i) 0 in
     let no = c .if-not-next .ensures tt (ready b (inv .0)) (c .ready .ensures (inv .0) (inv .1)) in
-    answered-at _ _ _ _ _ (sym (inv .3) ∙ left-refused (c .args .text .now) (c .loop-i .i) (inv .0) (c .loop-i-test .taken) (no .0)) (c .wanted .ensures (settled (ready b (inv .0))) (c .settle .ensures (ready b (inv .0)) (no .1)))
+    record {
+      answer =
+          answered-at _ _ _ _ _ (sym (inv .3) ∙ left-refused (c .args .text .now) (c .loop-i .i) (inv .0) (c .loop-i-test .taken) (no .0))
+          (c .wanted .ensures (settled (ready b (inv .0))) (c .settle .ensures (ready b (inv .0)) (no .1)));
+      pattern = tt;
+    }
 
 pub loop-i-again : need.loop-i-again
 loop-i-again c =
@@ -60,7 +66,8 @@ returns-in-Some c =
     let h = c .settle-2 .ensures (inv .0) (inv .1) in
     let is = ap whole (sym (h .stand)) ∙ sym (c .whole .ensures) ∙ c .in-Some .is in
     let says = sym (inv .3) ∙ left-none (c .args .text .now) (c .loop-i .i) (inv .0) (c .loop-i-test .left) ∙ ended-whole (c .loop-i .i) end (c .in-Some .within) (c .in-Some .late) is in
-    rw says (c .give .ensures (end .built) (h .draft) (sound-settled (inv .0) (inv .2) .built .names))
+    let given = c .give .ensures (end .built) (h .draft) (sound-settled (inv .0) (inv .2) .built .names) in
+    record { answer = rw says given; pattern = given-may-be _ _ _ (c .give .result) (meant-may-be (c .args .text .now) _ says) given }
 
 pub returns-in-None : need.returns-in-None
 returns-in-None c =
@@ -70,4 +77,7 @@ returns-in-None c =
     let is = ap whole (sym (h .stand)) ∙ sym (c .whole .ensures) ∙ c .in-None .is in
     let at : c .loop-i .i ≡ length (c .args .text .now) = omega arith in
     let says = sym (inv .3) ∙ left-none (c .args .text .now) (c .loop-i .i) (inv .0) (c .loop-i-test .left) ∙ ended-not (c .loop-i .i) end is in
-    answered-at _ (length (c .args .text .now)) _ _ _ (says ∙ ap (λ n. refused n (wanted end)) at) (c .wanted-in-None .ensures end h)
+    record {
+      answer = answered-at _ (length (c .args .text .now)) _ _ _ (says ∙ ap (λ n. refused n (wanted end)) at) (c .wanted-in-None .ensures end h);
+      pattern = tt;
+    }
