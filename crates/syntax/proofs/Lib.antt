@@ -7,3 +7,4 @@ mod Room
 mod Staying
 mod Back
 mod Meaning
+mod Passing
