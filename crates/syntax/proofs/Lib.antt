@@ -8,3 +8,5 @@ mod Staying
 mod Back
 mod Meaning
 mod Passing
+mod Letters
+mod TypedTests
