@@ -5,6 +5,7 @@ use mathlib.Core.List.{List, [], _∷_, _++_}
 use Prim.Native.Nat.{ℕ, zero, suc, _+_, _≤_, _<_}
 use native.Mathlib.Omega.{arith}
 use lib.Dec.{eqb}
+use lib.ListN.{length}
 use Rattle.std.specs.declared.option.Option.the-variants.{Some, None}
 use Rattle.std.proofs.shelf.Tests.{eq-eqb, ne-eqb}
 use Rattle.std.proofs.shelf.Ways.{tells}
@@ -40,3 +41,8 @@ pub run-push : (c m : ℕ) → run c m ++ ((c + m) ∷ []) ≡ run c (suc m)
 unfolding run
 run-push c zero = let e : c + 0 ≡ c = omega arith in rw e
 run-push c (suc m) = let e : c + suc m ≡ suc c + m = omega arith in rw e (ap (λ xs. c ∷ xs) (run-push (suc c) m))
+
+pub length-run : (c m : ℕ) → length (run c m) ≡ m
+unfolding run
+length-run c zero = refl
+length-run c (suc m) = ap suc (length-run (suc c) m)

@@ -10,3 +10,5 @@ mod Meaning
 mod Passing
 mod Letters
 mod TypedTests
+mod TypedItems
+mod TypedWhole
