@@ -8,7 +8,7 @@ use lib.Chars.{codes}
 use lib.Dec.{eqb, ltb, leb}
 use lib.ListN.{length, length-append}
 use Rattle.std.specs.Written.{decimal}
-use Rattle.std.proofs.shelf.Tests.{and-parts, lt-ltb, ltb-true, leb-true}
+use Rattle.std.proofs.shelf.Tests.{and-parts, eq-eqb, lt-ltb, ltb-true, leb-true}
 use Rattle.timeline.specs.Lists.{every, flat, run}
 use Rattle.patterns.specs.Patterns.{Test, Never, Step, Pattern}
 use Rattle.patterns.specs.Limits.{a-test, some-tests, a-step, some-steps, a-pattern}
@@ -78,3 +78,42 @@ steps-pass ss (s ∷ rest) l e =
       passes-to _ _ (ap (λ xs. st (At Item) (after xs [])) (append-assoc ss (s ∷ []) rest))
       (subst (λ n. Passes (st (At Item) (after (ss ++ (s ∷ [])) [])) (typed-steps n rest) (st (At Item) (after ((ss ++ (s ∷ [])) ++ rest) []))) long (steps-pass (ss ++ (s ∷ [])) rest room (rw long (both .1))))
     )
+
+-- THE END
+
+within-on : (w : Built) → 0 < length (w .names) → w .nevers ≡ [] → Passes (st (At Item) w) (codes "within ") (st (At (Number Window)) w)
+unfolding runs
+within-on w l e =
+    let a : ltb 0 (length (w .names)) ≡ true = lt-ltb _ _ l in
+    let b : eqb (length (w .nevers)) 0 ≡ true = eq-eqb _ _ (ap length e) in
+    record { on = λ at rest. (at + 1 + 1 + 1 + 1 + 1 + 1 + 1, rw (a, b)) }
+
+late-on : (v : ℕ) (w : Built) → Passes (st (Digits Window v) w) (codes " late ") (st (At (Number (Lateness v))) w)
+unfolding runs
+late-on v w = record { on = λ at rest. (at + 1 + 1 + 1 + 1 + 1 + 1, refl) }
+
+end-means : (at v l : ℕ) (w : Built) → runs at (st (Digits (Lateness v) l) w) [] ≡ means (record { steps = w .steps; within = v; late = l })
+unfolding runs
+end-means at v l w = refl
+
+pub typed-means : (p : Pattern) → a-pattern p ≡ true → reads (typed p) ≡ means p
+unfolding run
+typed-means p e =
+    let both = and-parts (leb 1 (length (p .steps)) && leb (length (p .steps)) 6) (some-steps 0 (p .steps) && (ltb (p .within) 1099511627776 && ltb (p .late) 1099511627776)) e in
+    let count = and-parts (leb 1 (length (p .steps))) (leb (length (p .steps)) 6) (both .0) in
+    let rest = and-parts (some-steps 0 (p .steps)) (ltb (p .within) 1099511627776 && ltb (p .late) 1099511627776) (both .1) in
+    let times = and-parts (ltb (p .within) 1099511627776) (ltb (p .late) 1099511627776) (rest .1) in
+    let w = after (p .steps) [] in
+    let some : 0 < length (w .names) = rw (length-run 97 (length (p .steps))) (leb-true _ _ (count .0)) in
+    let few : 0 + length (p .steps) ≤ 6 = omega (arith, leb-true (length (p .steps)) 6 (count .1)) in
+    let whole : Passes (st (At Item) (after [] [])) (typed p) (st (Digits (Lateness (p .within)) (p .late)) w) =
+    then (typed-steps 0 (p .steps)) _ (steps-pass [] (p .steps) few (rest .0))
+    (
+      then (codes "within ") _ (within-on w some refl)
+      (
+        then (decimal (p .within)) _ (pass-number (Number Window) Window w refl (p .within) (ltb-true _ _ (times .0)) (omega arith))
+        (then (codes " late ") (decimal (p .late)) (late-on (p .within) w) (pass-number (Number (Lateness (p .within))) (Lateness (p .within)) w refl (p .late) (ltb-true _ _ (times .1)) (omega arith)))
+      )
+    ) in
+    let x = whole .on 0 [] in
+    ap (runs 0 (st (At Item) (after [] []))) (sym (append-nil (typed p))) ∙ x .1 ∙ end-means (x .0) (p .within) (p .late) w
