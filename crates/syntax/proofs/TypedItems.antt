@@ -25,7 +25,7 @@ use Rattle.syntax.specs.Words.{digit}
 use Rattle.syntax.specs.Names.{step-named}
 use Rattle.syntax.specs.Rules.{goes, slot-of}
 use Rattle.syntax.specs.Reading.{Built, State, with-act, runs}
-use Rattle.syntax.specs.Typed.{never-letter, typed-test, typed-more, typed-tests, typed-item}
+use Rattle.syntax.specs.Typed.{step-letter, never-letter, typed-test, typed-more, typed-tests, typed-item}
 use Rattle.syntax.proofs.Letters.{Lettered, lettered, length-run, not-found}
 use Rattle.syntax.proofs.Passing.{st, Passes, then, pass-begin, pass-number}
 use Rattle.syntax.proofs.TypedTests.{Before, test-before, with-test}
@@ -125,14 +125,17 @@ unfolding runs
 never-space k w = record { on = λ at rest. (at + 1, refl) }
 
 module _ (k n : ℕ) (w : Built) (ts : List Test) (kind : k < 65536) (names : w .names ≡ run 97 n) (may : every (a-test n) ts ≡ true) (most : length ts ≤ 4) (none : w .tests ≡ []) where
-  pub step-item : n < 6 → Passes (st (At Item) w) (typed-item k (97 + n) ts) (st (At Item) (with-act (with-tests w ts) (End (record { never = false; kind = k; name = 97 + n }))))
+  pub step-item : n < 6 → Passes (st (At Item) w) (typed-item k (step-letter n) ts) (st (At Item) (with-act (with-tests w ts) (End (record { never = false; kind = k; name = 97 + n }))))
   step-item l =
+      let same : 97 + n ≡ step-letter n = omega arith in
       let h : Head = record { never = false; kind = k; name = 97 + n } in
       let letter = lettered (97 + n) (omega arith) (omega arith) in
       let there : ltb (length (w .names)) 6 ≡ true = lt-ltb _ _ (rw names (rw (length-run 97 n) l)) in
       let new : step-named (97 + n) (w .names) ≡ None = rw names (not-found 0 97 n (97 + n) (omega arith)) in
       let is-letter = letter .letter in
       let slot : slot-of Item (length (w .names)) ≡ Some StepKind = rw there in
+      subst (λ own. Passes (st (At Item) w) (typed-item k own ts) (st (At Item) (with-act (with-tests w ts) (End h)))) same
+      (
       then (decimal k) _ (pass-number Item StepKind w slot k kind (omega arith))
       (
         then (32 ∷ []) _ (step-space k w)
@@ -140,6 +143,7 @@ module _ (k n : ℕ) (w : Built) (ts : List Test) (kind : k < 65536) (names : w 
           then ((97 + n) ∷ []) _ (pass-begin (97 + n) (StepName k) w (goes (At (Named h))) (letter .digit) (letter .white) (rw (is-letter, new)))
           (tests-pass h n letter (omega arith) ts w names may most none)
         )
+      )
       )
 
   pub never-item : n < 6 → Passes (st (At (Number NeverKind)) w) (typed-item k never-letter ts) (st (At Item) (with-act (with-tests w ts) (End (record { never = true; kind = k; name = never-letter }))))

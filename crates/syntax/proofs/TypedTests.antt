@@ -28,7 +28,7 @@ use Rattle.syntax.specs.Words.{white, digit, spelling}
 use Rattle.syntax.specs.Names.{step-named}
 use Rattle.syntax.specs.Rules.{goes}
 use Rattle.syntax.specs.Reading.{Built, State, runs}
-use Rattle.syntax.specs.Typed.{typed-field, sign-text, typed-other, typed-test}
+use Rattle.syntax.specs.Typed.{step-letter, typed-field, sign-text, typed-other, typed-test}
 use Rattle.syntax.proofs.Letters.{Lettered, lettered, found}
 use Rattle.syntax.proofs.Passing.{st, Passes, then, pass-begin, pass-number, pass-end}
 
@@ -119,7 +119,7 @@ module _ (w : Built) (h : Head) where
         let l = ltb-true i n (and-parts (ltb i n) true (parts .0) .0) in
         let same = field-coded x (parts .1) in
         subst (λ y. Before (st (At (Testing h (Against f s))) w) (typed-other (i ∷ []) x) (st (At (Tested h)) (with-test w (record { what = field-number f; sign = sign-number s; step = i ∷ []; other = y })))) same
-        (before (step-pass n i (field-numbered x) e l m))
+        (let letter : step-letter i ≡ 97 + i = omega arith in rw letter (before (step-pass n i (field-numbered x) e l m)))
     other-before n (i ∷ j ∷ is) x e m k = let l = eqb-true (length (i ∷ j ∷ is)) 1 (and-parts (eqb (length (i ∷ j ∷ is)) 1) _ k .0) in absurd (omega arith)
 
 -- a whole test, of the step or never that has a letter

@@ -9,3 +9,4 @@ pub mod Drafts
 pub mod Readers
 pub mod Laws
 pub mod Typed
+pub mod Writing

@@ -1,7 +1,7 @@
 -- The text of a pattern: steps are named a to f, in their order, and every never x.
 -- Assumes nothing: these are definitions.
 use mathlib.Core.List.{List, [], _∷_, _++_}
-use Prim.Native.Nat.{ℕ, suc, _+_}
+use Prim.Native.Nat.{ℕ, suc, min, _+_}
 use lib.Chars.{codes}
 use Rattle.std.specs.Written.{decimal}
 use Rattle.timeline.specs.Lists.{flat}
@@ -12,9 +12,9 @@ use Rattle.patterns.specs.Patterns.{Test, Never, Step, Pattern}
 use Rattle.syntax.specs.declared.words.Word.the-variants.{Of, AtLeast}
 use Rattle.syntax.specs.Words.{spelling}
 
--- the letter of a step
+-- the letter of a step, of which there are 26
 abbrev pub step-letter : ℕ → ℕ
-step-letter n = 97 + n
+step-letter n = 97 + min n 25
 
 abbrev pub never-letter : ℕ
 never-letter = 120

@@ -8,6 +8,7 @@ mod laws;
 mod limits;
 mod moves;
 mod places;
+mod putting;
 mod readers;
 mod reading;
 mod reads;

@@ -21,20 +21,26 @@ pub enum Word {
 }
 
 impl Word {
-    pub fn letters(self) -> &'static [u8]
+    pub fn text(self) -> &'static str
         ensures { λ r. ⌜ now r ≡ spelling self ⌝ }
     {
         match self {
-            Word::Not => b"not",
-            Word::Where => b"where",
-            Word::And => b"and",
-            Word::Within => b"within",
-            Word::Late => b"late",
-            Word::Of(Field::Who) => b"who",
-            Word::Of(Field::Value) => b"value",
-            Word::Of(Field::Time) => b"time",
-            Word::AtLeast => b">=",
+            Word::Not => "not",
+            Word::Where => "where",
+            Word::And => "and",
+            Word::Within => "within",
+            Word::Late => "late",
+            Word::Of(Field::Who) => "who",
+            Word::Of(Field::Value) => "value",
+            Word::Of(Field::Time) => "time",
+            Word::AtLeast => ">=",
         }
+    }
+
+    pub fn letters(self) -> &'static [u8]
+        ensures { λ r. ⌜ now r ≡ spelling self ⌝ }
+    {
+        self.text().as_bytes()
     }
 }
 
