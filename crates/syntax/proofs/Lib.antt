@@ -12,3 +12,4 @@ mod Letters
 mod TypedTests
 mod TypedItems
 mod TypedWhole
+mod Texts

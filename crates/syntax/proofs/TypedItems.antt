@@ -138,11 +138,11 @@ module _ (k n : ℕ) (w : Built) (ts : List Test) (kind : k < 65536) (names : w 
       (
       then (decimal k) _ (pass-number Item StepKind w slot k kind (omega arith))
       (
-        then (32 ∷ []) _ (step-space k w)
-        (
-          then ((97 + n) ∷ []) _ (pass-begin (97 + n) (StepName k) w (goes (At (Named h))) (letter .digit) (letter .white) (rw (is-letter, new)))
-          (tests-pass h n letter (omega arith) ts w names may most none)
-        )
+      then (32 ∷ []) _ (step-space k w)
+      (
+      then ((97 + n) ∷ []) _ (pass-begin (97 + n) (StepName k) w (goes (At (Named h))) (letter .digit) (letter .white) (rw (is-letter, new)))
+      (tests-pass h n letter (omega arith) ts w names may most none)
+      )
       )
       )
 
@@ -152,9 +152,9 @@ module _ (k n : ℕ) (w : Built) (ts : List Test) (kind : k < 65536) (names : w 
       let new : step-named never-letter (w .names) ≡ None = rw names (not-found 0 97 n never-letter (omega arith)) in
       then (decimal k) _ (pass-number (Number NeverKind) NeverKind w refl k kind (omega arith))
       (
-        then (32 ∷ []) _ (never-space k w)
-        (
-          then (never-letter ∷ []) _ (pass-begin never-letter (NeverName k) w (goes (At (Named h))) refl refl (rw new))
-          (tests-pass h n (lettered never-letter (omega arith) (omega arith)) (omega arith) ts w names may most none)
-        )
+      then (32 ∷ []) _ (never-space k w)
+      (
+      then (never-letter ∷ []) _ (pass-begin never-letter (NeverName k) w (goes (At (Named h))) refl refl (rw new))
+      (tests-pass h n (lettered never-letter (omega arith) (omega arith)) (omega arith) ts w names may most none)
+      )
       )

@@ -137,6 +137,6 @@ test-before w h n t own e m k =
     let it : eqb (h .name) (h .name) ≡ true = eq-eqb _ _ refl in
     subst (λ u. Before (st (At (Testing h Own)) w) (typed-test (h .name) t) (st (At (Tested h)) (with-test w u))) same
     (
-      then-before (h .name ∷ []) _ (pass-begin (h .name) (Testing h Own) w (goes (At (Testing h OwnDot))) (own .digit) (own .white) (rw it))
-      (then-before (codes ".") _ (own-dot w h) (then-before (spelling (Of f)) _ (own-field w h f) (then-before (sign-text s) (typed-other (t .step) (t .other)) (own-sign w h f s) (other-before w h f s n (t .step) (t .other) e m (parts .1)))))
+    then-before (h .name ∷ []) _ (pass-begin (h .name) (Testing h Own) w (goes (At (Testing h OwnDot))) (own .digit) (own .white) (rw it))
+    (then-before (codes ".") _ (own-dot w h) (then-before (spelling (Of f)) _ (own-field w h f) (then-before (sign-text s) (typed-other (t .step) (t .other)) (own-sign w h f s) (other-before w h f s n (t .step) (t .other) e m (parts .1)))))
     )

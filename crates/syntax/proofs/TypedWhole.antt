@@ -62,8 +62,8 @@ module _ (ss : List Step) (few : length ss < 6) where
       let more : run 97 n ++ ((97 + n) ∷ []) ≡ run 97 (length (ss ++ (s ∷ []))) = run-push 97 n ∙ ap (run 97) (omega (arith, length-append ss (s ∷ []))) in
       passes-to _ _ (ap (λ names. st (At Item) (record { steps = ss ++ (s ∷ []); names = names; nevers = []; tests = [] })) more)
       (
-        then (flat typed-never (s .never)) _ (nevers-pass [] (s .never) room (nevers .1))
-        (step-item (s .kind) n (after ss (s .never)) (s .tests) (ltb-true _ _ (front .0)) refl (tests .1) (leb-true _ _ (tests .0)) refl few)
+      then (flat typed-never (s .never)) _ (nevers-pass [] (s .never) room (nevers .1))
+      (step-item (s .kind) n (after ss (s .never)) (s .tests) (ltb-true _ _ (front .0)) refl (tests .1) (leb-true _ _ (tests .0)) refl few)
       )
 
 steps-pass : (ss rest : List Step) → length ss + length rest ≤ 6 → some-steps (length ss) rest ≡ true → Passes (st (At Item) (after ss [])) (typed-steps (length ss) rest) (st (At Item) (after (ss ++ rest) []))
@@ -75,8 +75,8 @@ steps-pass ss (s ∷ rest) l e =
     let room : length (ss ++ (s ∷ [])) + length rest ≤ 6 = omega arith in
     then (typed-step (length ss) s) _ (step-pass ss (omega arith) s (both .0))
     (
-      passes-to _ _ (ap (λ xs. st (At Item) (after xs [])) (append-assoc ss (s ∷ []) rest))
-      (subst (λ n. Passes (st (At Item) (after (ss ++ (s ∷ [])) [])) (typed-steps n rest) (st (At Item) (after ((ss ++ (s ∷ [])) ++ rest) []))) long (steps-pass (ss ++ (s ∷ [])) rest room (rw long (both .1))))
+    passes-to _ _ (ap (λ xs. st (At Item) (after xs [])) (append-assoc ss (s ∷ []) rest))
+    (subst (λ n. Passes (st (At Item) (after (ss ++ (s ∷ [])) [])) (typed-steps n rest) (st (At Item) (after ((ss ++ (s ∷ [])) ++ rest) []))) long (steps-pass (ss ++ (s ∷ [])) rest room (rw long (both .1))))
     )
 
 -- THE END
@@ -109,11 +109,11 @@ typed-means p e =
     let whole : Passes (st (At Item) (after [] [])) (typed p) (st (Digits (Lateness (p .within)) (p .late)) w) =
     then (typed-steps 0 (p .steps)) _ (steps-pass [] (p .steps) few (rest .0))
     (
-      then (codes "within ") _ (within-on w some refl)
-      (
-        then (decimal (p .within)) _ (pass-number (Number Window) Window w refl (p .within) (ltb-true _ _ (times .0)) (omega arith))
-        (then (codes " late ") (decimal (p .late)) (late-on (p .within) w) (pass-number (Number (Lateness (p .within))) (Lateness (p .within)) w refl (p .late) (ltb-true _ _ (times .1)) (omega arith)))
-      )
+    then (codes "within ") _ (within-on w some refl)
+    (
+    then (decimal (p .within)) _ (pass-number (Number Window) Window w refl (p .within) (ltb-true _ _ (times .0)) (omega arith))
+    (then (codes " late ") (decimal (p .late)) (late-on (p .within) w) (pass-number (Number (Lateness (p .within))) (Lateness (p .within)) w refl (p .late) (ltb-true _ _ (times .1)) (omega arith)))
+    )
     ) in
     let x = whole .on 0 [] in
     ap (runs 0 (st (At Item) (after [] []))) (sym (append-nil (typed p))) ∙ x .1 ∙ end-means (x .0) (p .within) (p .late) w

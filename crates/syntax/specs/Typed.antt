@@ -1,7 +1,7 @@
 -- The text of a pattern: steps are named a to f, in their order, and every never x.
 -- Assumes nothing: these are definitions.
 use mathlib.Core.List.{List, [], _∷_, _++_}
-use Prim.Native.Nat.{ℕ, suc, min, _+_}
+use Prim.Native.Nat.{ℕ, zero, suc, min, _+_}
 use lib.Chars.{codes}
 use Rattle.std.specs.Written.{decimal}
 use Rattle.timeline.specs.Lists.{flat}
@@ -36,13 +36,18 @@ typed-other (i ∷ is) f = step-letter i ∷ (codes "." ++ typed-field f)
 abbrev pub typed-test : ℕ → Test → List ℕ
 typed-test own t = own ∷ (codes "." ++ (typed-field (t .what) ++ (sign-text (sign-numbered (t .sign)) ++ typed-other (t .step) (t .other))))
 
+-- what stands in front of the i-th test
+abbrev pub joint : ℕ → List ℕ
+joint zero = codes " where "
+joint (suc i) = codes " and "
+
 unfoldable pub typed-more : ℕ → List Test → List ℕ
 typed-more own [] = []
-typed-more own (t ∷ ts) = codes " and " ++ (typed-test own t ++ typed-more own ts)
+typed-more own (t ∷ ts) = joint 1 ++ (typed-test own t ++ typed-more own ts)
 
 abbrev pub typed-tests : ℕ → List Test → List ℕ
 typed-tests own [] = []
-typed-tests own (t ∷ ts) = codes " where " ++ (typed-test own t ++ typed-more own ts)
+typed-tests own (t ∷ ts) = joint 0 ++ (typed-test own t ++ typed-more own ts)
 
 -- a kind, a name and tests
 abbrev pub typed-item : ℕ → ℕ → List Test → List ℕ

@@ -17,10 +17,15 @@ mod rows;
 mod rules;
 mod slots;
 mod steps;
+mod unwritten;
 mod words;
+mod writing;
 
 pub use expects::Expected;
 pub use laws::read_may_be;
+pub use laws::typed_reads_back;
 pub use reading::read;
 pub use refusals::Refusal;
+pub use unwritten::Unwritten;
 pub use words::Word;
+pub use writing::write;

@@ -50,3 +50,39 @@ fn put_sign(text: &mut String, code: u64) -> Result<(), AllocError>
         Sign::NotBelow => text.push_str(" >= "),
     }
 }
+
+// What the test at a place is compared with.
+fn put_other(
+    heap: Global,
+    text: &mut String,
+    words: &[u64; PATTERN_WORDS],
+    at: usize,
+) -> Result<(), AllocError>
+    requires { ⌜ at + 5 ≤ 405 ⌝ }
+    ensures { λ r. ⌜ Puts (typed-other (kept-test (now (words .entry)) at .step) (kept-test (now (words .entry)) at .other)) (string-bytes (now (text .entry))) (string-bytes (now (text .exit))) r ⌝ }
+{
+    if words[at + 2] == 0 {
+        return put_number(heap, text, words[at + 4]);
+    }
+    put_letter(text, letter_of(words[at + 3]))?;
+    text.push_str(".")?;
+    put_field(text, words[at + 4])
+}
+
+// The test at a place, of what has a letter.
+pub fn put_test(
+    heap: Global,
+    text: &mut String,
+    own: u8,
+    words: &[u64; PATTERN_WORDS],
+    at: usize,
+) -> Result<(), AllocError>
+    requires { ⌜ at + 5 ≤ 405 ⌝ ∗ ⌜ own < 128 ⌝ }
+    ensures { λ r. ⌜ Puts (typed-test own (kept-test (now (words .entry)) at)) (string-bytes (now (text .entry))) (string-bytes (now (text .exit))) r ⌝ }
+{
+    put_letter(text, own)?;
+    text.push_str(".")?;
+    put_field(text, words[at])?;
+    put_sign(text, words[at + 1])?;
+    put_other(heap, text, words, at)
+}
