@@ -1,0 +1,230 @@
+-- Every move of a reader is fine where it stands.
+use mathlib.Core.Path.{_≡_, refl, sym, ap, _∙_}
+use mathlib.Core.Bool.{Bool, true, false, _&&_, not}
+use mathlib.Core.List.{List, [], _∷_}
+use Prim.Native.Nat.{ℕ, zero, suc, _+_, _-_, _*_, _≤_, _<_}
+use native.Mathlib.Omega.{arith}
+use lib.Dec.{eqb, ltb, lit<}
+use lib.ListN.{length, getD}
+use Rattle.std.specs.declared.option.Option.{Option}
+use Rattle.std.specs.declared.option.Option.the-variants.{Some, None}
+use Rattle.std.specs.Options.{isSome, mapped}
+use Rattle.std.proofs.shelf.Tests.{and-parts, and-from, lt-ltb, ltb-true, eqb-true}
+use Rattle.timeline.specs.Lists.{pick, every, none-of}
+use Rattle.patterns.specs.declared.fields.Field.{Field}
+use Rattle.patterns.specs.declared.fields.Field.the-variants.{Who, Value, Time}
+use Rattle.patterns.specs.declared.fields.Sign.{Sign}
+use Rattle.patterns.specs.declared.fields.Sign.the-variants.{Equal, Below, NotBelow}
+use Rattle.patterns.specs.Codes.{field-number, sign-number}
+use Rattle.patterns.specs.Limits.{a-test}
+use Rattle.syntax.specs.declared.words.Word.{Word}
+use Rattle.syntax.specs.declared.words.Word.the-variants.{Not, Where, And, Within, Late, Of, AtLeast}
+use Rattle.syntax.specs.declared.places.Head.{Head}
+use Rattle.syntax.specs.declared.places.Slot.{Slot}
+use Rattle.syntax.specs.declared.places.Slot.the-variants.{StepKind, NeverKind, Other, Window, Lateness}
+use Rattle.syntax.specs.declared.places.Part.{Part}
+use Rattle.syntax.specs.declared.places.Part.the-variants.{Own, OwnDot, What, How, Against, OtherDot, OtherField}
+use Rattle.syntax.specs.declared.places.Place.{Place}
+use Rattle.syntax.specs.declared.places.Place.the-variants.{Item, Number, StepName, NeverName, Named, Testing, Tested, LateWord, Whole}
+use Rattle.syntax.specs.declared.places.Stand.{Stand}
+use Rattle.syntax.specs.declared.places.Stand.the-variants.{At, Rest, Digits}
+use Rattle.syntax.specs.declared.places.Comparison.{Comparison}
+use Rattle.syntax.specs.declared.places.Act.the-variants.{Test}
+use Rattle.syntax.specs.declared.places.Move.{Move}
+use Rattle.syntax.specs.Words.{white, digit, spelling, field-begun}
+use Rattle.syntax.specs.Names.{named-from, step-named}
+use Rattle.syntax.specs.Rules.{
+  goes,
+  spells,
+  adds,
+  ends,
+  only-if,
+  slot-of,
+  limit,
+  counted,
+  counts,
+  numbered,
+  settle,
+  begins-item,
+  begins-name,
+  begins-sign,
+  begins-part,
+  begins,
+  spelled,
+  steps-on,
+}
+use Rattle.syntax.specs.Reading.{Built, test-of, with-never, with-step, with-act}
+use Rattle.syntax.proofs.Sound.{Fine, Fine-head, Fine-slot, Fine-part, Fine-place, Fine-stand, Fine-act, Fine-move, Fits}
+
+-- MOVES BY TESTS
+
+module _ (w : Built) where
+  fits-if : (b : Bool) (m : Move) → (b ≡ true → Fine-move w m) → Fits w (only-if b m)
+  fits-if true m f = f refl
+  fits-if false m f = tt
+
+  fits-pick : (b : Bool) (x y : Option Move) → (b ≡ true → Fits w x) → Fits w y → Fits w (pick b x y)
+  fits-pick true x y f g = f refl
+  fits-pick false x y f g = g
+
+  fits-mapped : {A : Type 0} (o : Option A) (f : A → Move) → ((a : A) → o ≡ Some a → Fine-move w (f a)) → Fits w (mapped f o)
+  fits-mapped None f g = tt
+  fits-mapped (Some a) f g = g a refl
+
+  -- nothing is added
+  going : (s : Stand) → Fine-stand s w → Fine-move w (goes s)
+  going s h = record { act = tt; stand = h }
+
+-- NAMES AND CODES
+
+named-below : (n b i : ℕ) (xs : List ℕ) → named-from n b xs ≡ Some i → i < n + length xs
+named-below n b i [] e = let z : _≡_ {A = ℕ} 0 1 = cc in absurd (omega arith)
+named-below n b i (x ∷ xs) e = by (eqb x b) e (named-below (n + 1) b i xs)
+  where
+    by : (t : Bool) → pick t (Some n) (named-from (n + 1) b xs) ≡ Some i → (named-from (n + 1) b xs ≡ Some i → i < n + 1 + length xs) → i < n + suc (length xs)
+    by true h rec = let k : n ≡ i = cc in omega arith
+    by false h rec = omega (arith, rec h)
+
+field-few : (f : Field) → ltb (field-number f) 3 ≡ true
+field-few Who = refl
+field-few Value = refl
+field-few Time = refl
+
+sign-few : (s : Sign) → ltb (sign-number s) 3 ≡ true
+sign-few Equal = refl
+sign-few Below = refl
+sign-few NotBelow = refl
+
+field-long : (f : Field) → 1 < length (spelling (Of f))
+field-long Who = lit< tt
+field-long Value = lit< tt
+field-long Time = lit< tt
+
+-- NUMBERS
+
+fits-counted : (w : Built) (n : Slot) (v b : ℕ) → Fine-slot n w → Fits w (counted n v b)
+fits-counted w n v b h = fits-if w _ _ (λ e. going w (Digits n (v * 10 + (b - 48))) (h, ltb-true _ _ e))
+
+fits-digit : (w : Built) (p : Place) (b : ℕ) → Fine-place p w → Fits w (counts (slot-of p (length (w .names))) b)
+fits-digit w Item b h = by (ltb (length (w .names)) 6) refl
+  where
+    by : (t : Bool) → ltb (length (w .names)) 6 ≡ t → Fits w (counts (pick t (Some StepKind) None) b)
+    by true e = fits-counted w StepKind 0 b (ltb-true _ _ e, h .0)
+    by false e = tt
+fits-digit w (Number n) b h = fits-counted w n 0 b h
+fits-digit w (StepName k) b h = tt
+fits-digit w (NeverName k) b h = tt
+fits-digit w (Named g) b h = tt
+fits-digit w (Testing g Own) b h = tt
+fits-digit w (Testing g OwnDot) b h = tt
+fits-digit w (Testing g What) b h = tt
+fits-digit w (Testing g (How f)) b h = tt
+fits-digit w (Testing g (Against f s)) b h = fits-counted w (Other g f s) 0 b (h .0, h .1)
+fits-digit w (Testing g (OtherDot f s i)) b h = tt
+fits-digit w (Testing g (OtherField f s i)) b h = tt
+fits-digit w (Tested g) b h = tt
+fits-digit w (LateWord t) b h = tt
+fits-digit w (Whole t l) b h = tt
+
+-- what was said of a head holds with one more test
+head-kept : (w : Built) (h : Head) (t : Comparison) → Fine-head h w → Fine-head h (with-act w (Test t))
+head-kept w h t f = record { kind = f .kind; steps = f .steps; nevers = f .nevers }
+
+numbered-fine : (w : Built) (n : Slot) (v : ℕ) → Fine-slot n w → v < limit n → Fine-move w (numbered n v)
+unfolding none-of
+numbered-fine w StepKind v h l = going w (At (StepName v)) (l, h .0, h .1)
+numbered-fine w NeverKind v h l = going w (At (NeverName v)) (l, h .0, h .1, h .2)
+numbered-fine w (Other g f s) v h l =
+    record {
+      act = (h .1, and-from _ _ (and-from _ _ (field-few f) (sign-few s)) (lt-ltb _ _ l));
+      stand = head-kept w g (record { what = f; sign = s; step = None; other = v }) (h .0);
+    }
+numbered-fine w Window v h l = going w (At (LateWord v)) (l, h)
+numbered-fine w (Lateness t) v h l = going w (At (Whole t v)) (h .0, l, h .1)
+
+pub settle-fine : (w : Built) (s : Stand) → Fine-stand s w → Fine-move w (settle s)
+settle-fine w (At p) h = going w (At p) h
+settle-fine w (Rest x i p) h = going w (Rest x i p) h
+settle-fine w (Digits n v) h = numbered-fine w n v (h .0) (h .1)
+
+-- NAMES, WORDS AND MARKS
+
+module _ (w : Built) (b : ℕ) where
+  fits-item : Fine-place Item w → Fits w (begins-item (length (w .names)) (length (w .nevers)) b)
+  fits-item h =
+      fits-pick w (eqb b 110) _ _
+      (λ _. fits-if w _ _ (λ e. let t = and-parts _ _ e in going w (Rest Not 1 (Number NeverKind)) ((ltb-true _ _ (t .0), ltb-true _ _ (t .1), h .0), lit< tt)))
+      (
+      fits-pick w (eqb b 119) _ _
+      (λ _. fits-if w _ _ (λ e. let t = and-parts _ _ e in going w (Rest Within 1 (Number Window)) (ltb-true _ _ (t .0), lit< tt))) tt
+      )
+
+  fits-name : (never : Bool) (k : ℕ) → k < 65536 → length (w .names) < 6 → (never ≡ true → length (w .nevers) < 2) → length (w .tests) ≡ 0 → Fits w (begins-name never k (w .names) b)
+  fits-name never k l m n e = fits-if w _ _ (λ _. going w (At (Named (record { never = never; kind = k; name = b }))) (record { kind = l; steps = m; nevers = n }, e))
+
+  ending : (h : Head) → Fine-head h w → Fine-move w (ends h)
+  ending h f = record { act = f; stand = by (h .never) }
+    where
+      by : (t : Bool) → Fine-place Item (pick t (with-never w h) (with-step w h))
+      by true = (refl, λ l. absurd (omega (arith, f .steps)))
+      by false = (refl, λ _. refl)
+
+  fits-sign : (h : Head) (f : Field) → Fine-head h w → length (w .tests) < 4 → Fits w (begins-sign h f b)
+  fits-sign h f g l =
+      fits-pick w (eqb b 61) _ _ (λ _. going w (At (Testing h (Against f Equal))) (g, l, tt))
+      (
+      fits-pick w (eqb b 60) _ _ (λ _. going w (At (Testing h (Against f Below))) (g, l, tt))
+      (fits-pick w (eqb b 62) _ _ (λ _. going w (Rest AtLeast 1 (Testing h (Against f NotBelow))) ((g, l, tt), lit< tt)) tt)
+      )
+
+  -- a test with a field of an earlier step
+  back-fine : (h : Head) (f : Field) (s : Sign) (i : ℕ) (g : Field) → Fine w → Fine-head h w → length (w .tests) < 4 → i < length (w .names)
+      → Fine-move w (adds (record { what = f; sign = s; step = Some i; other = field-number g }) (Rest (Of g) 1 (Tested h)))
+  unfolding none-of every
+  back-fine h f s i g fine head l m =
+      let below : ltb i (length (w .steps)) ≡ true = lt-ltb _ _ (rw (← fine .names) m) in
+      record {
+        act = (l, and-from _ _ (and-from _ _ (field-few f) (sign-few s)) (and-from _ _ (and-from _ _ below refl) (field-few g)));
+        stand = (head-kept w h (record { what = f; sign = s; step = Some i; other = field-number g }) head, field-long g);
+      }
+
+  fits-part : (h : Head) (p : Part) → Fine w → Fine-place (Testing h p) w → Fits w (begins-part h p (w .names) b)
+  fits-part h Own fine g = fits-if w _ _ (λ _. going w (At (Testing h OwnDot)) (g .0, g .1, tt))
+  fits-part h OwnDot fine g = fits-if w _ _ (λ _. going w (At (Testing h What)) (g .0, g .1, tt))
+  fits-part h What fine g = fits-mapped w (field-begun b) _ (λ f _. going w (Rest (Of f) 1 (Testing h (How f))) ((g .0, g .1, tt), field-long f))
+  fits-part h (How f) fine g = fits-sign h f (g .0) (g .1)
+  fits-part h (Against f s) fine g =
+      fits-mapped w (step-named b (w .names)) _ (λ i e. going w (At (Testing h (OtherDot f s i))) (g .0, g .1, omega (arith, named-below 0 b i (w .names) e)))
+  fits-part h (OtherDot f s i) fine g = fits-if w _ _ (λ _. going w (At (Testing h (OtherField f s i))) g)
+  fits-part h (OtherField f s i) fine g = fits-mapped w (field-begun b) _ (λ x _. back-fine h f s i x fine (g .0) (g .1) (g .2))
+
+  fits-begins : (p : Place) → Fine w → Fine-place p w → Fits w (begins p (w .names) (length (w .nevers)) (length (w .tests)) b)
+  fits-begins Item fine h = fits-item h
+  fits-begins (Number n) fine h = tt
+  fits-begins (StepName k) fine h = fits-name false k (h .0) (h .1) (λ e. let z : _≡_ {A = ℕ} 0 1 = cc in absurd (omega arith)) (h .2)
+  fits-begins (NeverName k) fine h =
+      fits-pick w (eqb b 59) _ _ (λ _. ending (record { never = true; kind = k; name = 0 }) (record { kind = h .0; steps = h .1; nevers = λ _. h .2 }))
+      (fits-name true k (h .0) (h .1) (λ _. h .2) (h .3))
+  fits-begins (Named g) fine h =
+      fits-pick w (eqb b 59) _ _ (λ _. ending g (h .0)) (fits-if w _ _ (λ _. going w (Rest Where 1 (Testing g Own)) ((h .0, omega (arith, h .1), tt), lit< tt)))
+  fits-begins (Testing g p) fine h = fits-part g p fine h
+  fits-begins (Tested g) fine h =
+      fits-pick w (eqb b 59) _ _ (λ _. ending g h)
+      (fits-if w _ _ (λ e. going w (Rest And 1 (Testing g Own)) ((h, ltb-true _ _ (and-parts _ _ e .1), tt), lit< tt)))
+  fits-begins (LateWord t) fine h = fits-if w _ _ (λ _. going w (Rest Late 1 (Number (Lateness t))) (h, lit< tt))
+  fits-begins (Whole t l) fine h = tt
+
+  -- A BYTE
+
+  fits-spelled : (x : Word) (i : ℕ) (p : Place) → Fine-place p w → Fine-stand (spelled x i p) w
+  fits-spelled x i p h = by (ltb i (length (spelling x))) refl
+    where
+      by : (t : Bool) → ltb i (length (spelling x)) ≡ t → Fine-stand (pick t (Rest x i p) (At p)) w
+      by true e = (h, ltb-true _ _ e)
+      by false e = h
+
+  pub fits-step : (s : Stand) → Fine w → Fine-stand s w → Fits w (steps-on s (w .names) (length (w .nevers)) (length (w .tests)) b)
+  fits-step (At p) fine h =
+      fits-pick w (digit b) _ _ (λ _. fits-digit w p b h) (fits-pick w (white b) _ _ (λ _. going w (At p) h) (fits-begins p fine h))
+  fits-step (Rest x i p) fine h = fits-if w _ _ (λ _. going w (spelled x (i + 1) p) (fits-spelled x (i + 1) p (h .0)))
+  fits-step (Digits n v) fine h = fits-pick w (digit b) _ _ (λ _. fits-counted w n v b (h .0)) tt

@@ -1,0 +1,15 @@
+mod Looking
+mod Growing
+mod Sound
+mod Adding
+mod Fitting
+mod Room
+mod Staying
+mod Back
+mod Meaning
+mod Passing
+mod Letters
+mod TypedTests
+mod TypedItems
+mod TypedWhole
+mod Texts

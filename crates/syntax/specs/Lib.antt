@@ -1,0 +1,12 @@
+pub mod Words
+pub mod Names
+pub mod Rules
+pub mod Expects
+pub mod Cells
+pub mod Rows
+pub mod Reading
+pub mod Drafts
+pub mod Readers
+pub mod Laws
+pub mod Typed
+pub mod Writing

@@ -1,0 +1,14 @@
+// Laws of typed patterns: what each answers is of no account, what it ensures holds.
+ghost use Rattle.syntax.specs.Laws.{Read-may-be, Typed-reads-back};
+
+pub fn read_may_be() -> u8
+    ensures { λ _. ⌜ Read-may-be ⌝ }
+{
+    0
+}
+
+pub fn typed_reads_back() -> u8
+    ensures { λ _. ⌜ Typed-reads-back ⌝ }
+{
+    0
+}
