@@ -123,7 +123,8 @@ fn refuses_misfits(rt: LibcRuntime) -> Result<(), Fail> {
     says(&mut memory, 0, &CALM, 0)
 }
 
-// Memories that the listener never wrote: each phase, and the same number everywhere behind it. What is refused changes nothing.
+// Memories that the listener never wrote: each phase, and the same number everywhere behind it. No more than 8,193 events
+// can be held. What is refused changes nothing, but that want of room is the end.
 #[test]
 fn whatever_the_memory_holds(rt: LibcRuntime) -> Result<(), Fail> {
     let heap = rt.alloc();
@@ -134,9 +135,10 @@ fn whatever_the_memory_holds(rt: LibcRuntime) -> Result<(), Fail> {
                 memory[0] = phase;
                 let before = memory.to_vec(heap)?;
                 let (told, out) = act(&mut memory, kind, &[5, 1, 0, 0]);
+                check(told == 12 || number < 8_194)?;
                 if told >= 10 && told < 100 {
-                    check(told == 12 || told == 11)?;
-                    check(out == [7u64; 6] && before.as_slice() == &memory[..])?;
+                    check(out == [7u64; 6])?;
+                    check(told == 18 || before.as_slice() == &memory[..])?;
                 }
             }
         }
