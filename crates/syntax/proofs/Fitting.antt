@@ -119,7 +119,7 @@ fits-digit w (Testing g Own) b h = tt
 fits-digit w (Testing g OwnDot) b h = tt
 fits-digit w (Testing g What) b h = tt
 fits-digit w (Testing g (How f)) b h = tt
-fits-digit w (Testing g (Against f s)) b h = fits-counted w (Other g f s) 0 b (h .0, h .1)
+fits-digit w (Testing g (Against f s)) b h = fits-counted w (Other g f s) 0 b (h .0, h .1, h .2)
 fits-digit w (Testing g (OtherDot f s i)) b h = tt
 fits-digit w (Testing g (OtherField f s i)) b h = tt
 fits-digit w (Tested g) b h = tt
@@ -136,8 +136,8 @@ numbered-fine w StepKind v h l = going w (At (StepName v)) (l, h .0, h .1)
 numbered-fine w NeverKind v h l = going w (At (NeverName v)) (l, h .0, h .1, h .2)
 numbered-fine w (Other g f s) v h l =
     record {
-      act = (h .1, and-from _ _ (and-from _ _ (field-few f) (sign-few s)) (lt-ltb _ _ l));
-      stand = head-kept w g (record { what = f; sign = s; step = None; other = v }) (h .0);
+      act = (h .2, and-from _ _ (and-from _ _ (field-few f) (sign-few s)) (lt-ltb _ _ l));
+      stand = (head-kept w g (record { what = f; sign = s; step = None; other = v }) (h .0), h .1);
     }
 numbered-fine w Window v h l = going w (At (LateWord v)) (l, h)
 numbered-fine w (Lateness t) v h l = going w (At (Whole t v)) (h .0, l, h .1)
@@ -160,7 +160,7 @@ module _ (w : Built) (b : ℕ) where
       )
 
   fits-name : (never : Bool) (k : ℕ) → k < 65536 → length (w .names) < 6 → (never ≡ true → length (w .nevers) < 2) → length (w .tests) ≡ 0 → Fits w (begins-name never k (w .names) b)
-  fits-name never k l m n e = fits-if w _ _ (λ _. going w (At (Named (record { never = never; kind = k; name = b }))) (record { kind = l; steps = m; nevers = n }, e))
+  fits-name never k l m n e = fits-if w _ _ (λ t. going w (At (Named (record { never = never; kind = k; name = b }))) (record { kind = l; steps = m; nevers = n }, and-parts _ _ t .0, e))
 
   ending : (h : Head) → Fine-head h w → Fine-move w (ends h)
   ending h f = record { act = f; stand = by (h .never) }
@@ -169,34 +169,34 @@ module _ (w : Built) (b : ℕ) where
       by true = (refl, λ l. absurd (omega (arith, f .steps)))
       by false = (refl, λ _. refl)
 
-  fits-sign : (h : Head) (f : Field) → Fine-head h w → length (w .tests) < 4 → Fits w (begins-sign h f b)
-  fits-sign h f g l =
-      fits-pick w (eqb b 61) _ _ (λ _. going w (At (Testing h (Against f Equal))) (g, l, tt))
+  fits-sign : (h : Head) (f : Field) → Fine-place (Testing h Own) w → Fits w (begins-sign h f b)
+  fits-sign h f g =
+      fits-pick w (eqb b 61) _ _ (λ _. going w (At (Testing h (Against f Equal))) g)
       (
-      fits-pick w (eqb b 60) _ _ (λ _. going w (At (Testing h (Against f Below))) (g, l, tt))
-      (fits-pick w (eqb b 62) _ _ (λ _. going w (Rest AtLeast 1 (Testing h (Against f NotBelow))) ((g, l, tt), lit< tt)) tt)
+      fits-pick w (eqb b 60) _ _ (λ _. going w (At (Testing h (Against f Below))) g)
+      (fits-pick w (eqb b 62) _ _ (λ _. going w (Rest AtLeast 1 (Testing h (Against f NotBelow))) (g, lit< tt)) tt)
       )
 
   -- a test with a field of an earlier step
-  back-fine : (h : Head) (f : Field) (s : Sign) (i : ℕ) (g : Field) → Fine w → Fine-head h w → length (w .tests) < 4 → i < length (w .names)
+  back-fine : (h : Head) (f : Field) (s : Sign) (i : ℕ) (g : Field) → Fine w → Fine-place (Testing h Own) w → i < length (w .names)
       → Fine-move w (adds (record { what = f; sign = s; step = Some i; other = field-number g }) (Rest (Of g) 1 (Tested h)))
   unfolding none-of every
-  back-fine h f s i g fine head l m =
+  back-fine h f s i g fine p m =
       let below : ltb i (length (w .steps)) ≡ true = lt-ltb _ _ (rw (← fine .names) m) in
       record {
-        act = (l, and-from _ _ (and-from _ _ (field-few f) (sign-few s)) (and-from _ _ (and-from _ _ below refl) (field-few g)));
-        stand = (head-kept w h (record { what = f; sign = s; step = Some i; other = field-number g }) head, field-long g);
+        act = (p .2, and-from _ _ (and-from _ _ (field-few f) (sign-few s)) (and-from _ _ (and-from _ _ below refl) (field-few g)));
+        stand = ((head-kept w h (record { what = f; sign = s; step = Some i; other = field-number g }) (p .0), p .1), field-long g);
       }
 
   fits-part : (h : Head) (p : Part) → Fine w → Fine-place (Testing h p) w → Fits w (begins-part h p (w .names) b)
-  fits-part h Own fine g = fits-if w _ _ (λ _. going w (At (Testing h OwnDot)) (g .0, g .1, tt))
-  fits-part h OwnDot fine g = fits-if w _ _ (λ _. going w (At (Testing h What)) (g .0, g .1, tt))
-  fits-part h What fine g = fits-mapped w (field-begun b) _ (λ f _. going w (Rest (Of f) 1 (Testing h (How f))) ((g .0, g .1, tt), field-long f))
-  fits-part h (How f) fine g = fits-sign h f (g .0) (g .1)
+  fits-part h Own fine g = fits-if w _ _ (λ _. going w (At (Testing h OwnDot)) (g .0, g .1, g .2, tt))
+  fits-part h OwnDot fine g = fits-if w _ _ (λ _. going w (At (Testing h What)) (g .0, g .1, g .2, tt))
+  fits-part h What fine g = fits-mapped w (field-begun b) _ (λ f _. going w (Rest (Of f) 1 (Testing h (How f))) ((g .0, g .1, g .2, tt), field-long f))
+  fits-part h (How f) fine g = fits-sign h f (g .0, g .1, g .2, tt)
   fits-part h (Against f s) fine g =
-      fits-mapped w (step-named b (w .names)) _ (λ i e. going w (At (Testing h (OtherDot f s i))) (g .0, g .1, omega (arith, named-below 0 b i (w .names) e)))
+      fits-mapped w (step-named b (w .names)) _ (λ i e. going w (At (Testing h (OtherDot f s i))) (g .0, g .1, g .2, omega (arith, named-below 0 b i (w .names) e)))
   fits-part h (OtherDot f s i) fine g = fits-if w _ _ (λ _. going w (At (Testing h (OtherField f s i))) g)
-  fits-part h (OtherField f s i) fine g = fits-mapped w (field-begun b) _ (λ x _. back-fine h f s i x fine (g .0) (g .1) (g .2))
+  fits-part h (OtherField f s i) fine g = fits-mapped w (field-begun b) _ (λ x _. back-fine h f s i x fine (g .0, g .1, g .2, tt) (g .3))
 
   fits-begins : (p : Place) → Fine w → Fine-place p w → Fits w (begins p (w .names) (length (w .nevers)) (length (w .tests)) b)
   fits-begins Item fine h = fits-item h
@@ -206,11 +206,11 @@ module _ (w : Built) (b : ℕ) where
       fits-pick w (eqb b 59) _ _ (λ _. ending (record { never = true; kind = k; name = 0 }) (record { kind = h .0; steps = h .1; nevers = λ _. h .2 }))
       (fits-name true k (h .0) (h .1) (λ _. h .2) (h .3))
   fits-begins (Named g) fine h =
-      fits-pick w (eqb b 59) _ _ (λ _. ending g (h .0)) (fits-if w _ _ (λ _. going w (Rest Where 1 (Testing g Own)) ((h .0, omega (arith, h .1), tt), lit< tt)))
+      fits-pick w (eqb b 59) _ _ (λ _. ending g (h .0)) (fits-if w _ _ (λ _. going w (Rest Where 1 (Testing g Own)) ((h .0, h .1, omega (arith, h .2), tt), lit< tt)))
   fits-begins (Testing g p) fine h = fits-part g p fine h
   fits-begins (Tested g) fine h =
-      fits-pick w (eqb b 59) _ _ (λ _. ending g h)
-      (fits-if w _ _ (λ e. going w (Rest And 1 (Testing g Own)) ((h, ltb-true _ _ (and-parts _ _ e .1), tt), lit< tt)))
+      fits-pick w (eqb b 59) _ _ (λ _. ending g (h .0))
+      (fits-if w _ _ (λ e. going w (Rest And 1 (Testing g Own)) ((h .0, h .1, ltb-true _ _ (and-parts _ _ e .1), tt), lit< tt)))
   fits-begins (LateWord t) fine h = fits-if w _ _ (λ _. going w (Rest Late 1 (Number (Lateness t))) (h, lit< tt))
   fits-begins (Whole t l) fine h = tt
 

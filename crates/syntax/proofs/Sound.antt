@@ -20,7 +20,7 @@ use Rattle.syntax.specs.declared.places.Stand.the-variants.{At, Rest, Digits}
 use Rattle.syntax.specs.declared.places.Act.{Act}
 use Rattle.syntax.specs.declared.places.Act.the-variants.{Nothing, Test, End}
 use Rattle.syntax.specs.declared.places.Move.{Move}
-use Rattle.syntax.specs.Words.{spelling}
+use Rattle.syntax.specs.Words.{letter, spelling}
 use Rattle.syntax.specs.Rules.{limit}
 use Rattle.syntax.specs.Reading.{Built, State, test-of, with-act}
 
@@ -43,7 +43,7 @@ pub record Fine-head (h : Head) (w : Built) : Type 0 where
 abbrev pub Fine-slot : Slot → Built → Type 0
 Fine-slot StepKind w = (length (w .names) < 6) × (length (w .tests) ≡ 0)
 Fine-slot NeverKind w = (length (w .names) < 6) × (length (w .nevers) < 2) × (length (w .tests) ≡ 0)
-Fine-slot (Other h f s) w = Fine-head h w × (length (w .tests) < 4)
+Fine-slot (Other h f s) w = Fine-head h w × (letter (h .name) ≡ true) × (length (w .tests) < 4)
 Fine-slot Window w = 0 < length (w .names)
 Fine-slot (Lateness t) w = (t < 1099511627776) × (0 < length (w .names))
 
@@ -61,9 +61,9 @@ Fine-place Item w = (length (w .tests) ≡ 0) × (6 ≤ length (w .names) → le
 Fine-place (Number n) w = Fine-slot n w
 Fine-place (StepName k) w = (k < 65536) × (length (w .names) < 6) × (length (w .tests) ≡ 0)
 Fine-place (NeverName k) w = (k < 65536) × (length (w .names) < 6) × (length (w .nevers) < 2) × (length (w .tests) ≡ 0)
-Fine-place (Named h) w = Fine-head h w × (length (w .tests) ≡ 0)
-Fine-place (Testing h p) w = Fine-head h w × (length (w .tests) < 4) × Fine-part p w
-Fine-place (Tested h) w = Fine-head h w
+Fine-place (Named h) w = Fine-head h w × (letter (h .name) ≡ true) × (length (w .tests) ≡ 0)
+Fine-place (Testing h p) w = Fine-head h w × (letter (h .name) ≡ true) × (length (w .tests) < 4) × Fine-part p w
+Fine-place (Tested h) w = Fine-head h w × (letter (h .name) ≡ true)
 Fine-place (LateWord t) w = (t < 1099511627776) × (0 < length (w .names))
 Fine-place (Whole t l) w = (t < 1099511627776) × (l < 1099511627776) × (0 < length (w .names))
 

@@ -17,6 +17,8 @@ mod rows;
 mod rules;
 mod slots;
 mod steps;
+#[cfg(test)]
+mod tests;
 mod unwritten;
 mod words;
 mod writing;
