@@ -127,7 +127,7 @@ fits-digit w (LateWord t) b h = tt
 fits-digit w (Whole t l) b h = tt
 
 -- what was said of a head holds with one more test
-head-kept : (w : Built) (h : Head) (t : Comparison) → Fine-head h w → Fine-head h (with-act w (Test t))
+pub head-kept : (w : Built) (h : Head) (t : Comparison) → Fine-head h w → Fine-head h (with-act w (Test t))
 head-kept w h t f = record { kind = f .kind; steps = f .steps; nevers = f .nevers }
 
 numbered-fine : (w : Built) (n : Slot) (v : ℕ) → Fine-slot n w → v < limit n → Fine-move w (numbered n v)

@@ -22,6 +22,9 @@ pub record Lettered (b : ℕ) : Type 0 where
 pub lettered : (b : ℕ) → 97 ≤ b → b ≤ 122 → Lettered b
 lettered b l m = record { digit = grind (arith, tells); white = grind (arith, tells); letter = grind (arith, tells) }
 
+pub lettered-by : (b : ℕ) → letter b ≡ true → Lettered b
+lettered-by b e = record { digit = grind (arith, tells); white = grind (arith, tells); letter = e }
+
 pub found : (k c m i : ℕ) → i < m → named-from k (c + i) (run c m) ≡ Some (k + i)
 unfolding run
 found k c zero i l = absurd (omega arith)

@@ -13,3 +13,6 @@ mod TypedTests
 mod TypedItems
 mod TypedWhole
 mod Texts
+mod Free
+mod Living
+mod Stopping

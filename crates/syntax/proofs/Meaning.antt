@@ -28,7 +28,7 @@ use Rattle.syntax.proofs.Sound.{Fine, Fine-stand, Sound}
 use Rattle.syntax.proofs.Staying.{sound-begun, sound-settled, sound-ready, sound-next}
 use Rattle.syntax.proofs.Back.{pattern-back}
 
-no-pattern : {A : Type 0} (at : ℕ) (e : Expected) (p : Pattern) → refused at e ≡ means p → A
+pub no-pattern : {A : Type 0} (at : ℕ) (e : Expected) (p : Pattern) → refused at e ≡ means p → A
 no-pattern at e p h = let z : _≡_ {A = ℕ} 0 1 = cc in absurd (omega arith)
 
 module _ (w : Built) (fine : Fine w) (at : ℕ) (e : Expected) (p : Pattern) where

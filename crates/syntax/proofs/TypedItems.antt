@@ -116,7 +116,7 @@ module _ (h : Head) (n : ℕ) (own : Lettered (h .name)) (few : n ≤ 6) where
 
 -- A KIND, A NAME AND TESTS
 
-step-space : (k : ℕ) (w : Built) → Passes (st (Digits StepKind k) w) (32 ∷ []) (st (At (StepName k)) w)
+pub step-space : (k : ℕ) (w : Built) → Passes (st (Digits StepKind k) w) (32 ∷ []) (st (At (StepName k)) w)
 unfolding runs
 step-space k w = record { on = λ at rest. (at + 1, refl) }
 

@@ -61,28 +61,28 @@ sign-coded (suc (suc (suc n))) e = let l = ltb-true _ _ e in absurd (omega arith
 
 module _ (w : Built) (h : Head) where
   -- marks and words
-  own-dot : Passes (st (At (Testing h OwnDot)) w) (codes ".") (st (At (Testing h What)) w)
+  pub own-dot : Passes (st (At (Testing h OwnDot)) w) (codes ".") (st (At (Testing h What)) w)
   unfolding runs
   own-dot = record { on = λ at rest. (at + 1, refl) }
 
-  own-field : (f : Field) → Passes (st (At (Testing h What)) w) (spelling (Of f)) (st (At (Testing h (How f))) w)
+  pub own-field : (f : Field) → Passes (st (At (Testing h What)) w) (spelling (Of f)) (st (At (Testing h (How f))) w)
   unfolding runs
   own-field Who = record { on = λ at rest. (at + 1 + 1 + 1, refl) }
   own-field Value = record { on = λ at rest. (at + 1 + 1 + 1 + 1 + 1, refl) }
   own-field Time = record { on = λ at rest. (at + 1 + 1 + 1 + 1, refl) }
 
-  own-sign : (f : Field) (s : Sign) → Passes (st (At (Testing h (How f))) w) (sign-text s) (st (At (Testing h (Against f s))) w)
+  pub own-sign : (f : Field) (s : Sign) → Passes (st (At (Testing h (How f))) w) (sign-text s) (st (At (Testing h (Against f s))) w)
   unfolding runs
   own-sign f Equal = record { on = λ at rest. (at + 1 + 1 + 1, refl) }
   own-sign f Below = record { on = λ at rest. (at + 1 + 1 + 1, refl) }
   own-sign f NotBelow = record { on = λ at rest. (at + 1 + 1 + 1 + 1, refl) }
 
   module _ (f : Field) (s : Sign) where
-    other-dot : (i : ℕ) → Passes (st (At (Testing h (OtherDot f s i))) w) (codes ".") (st (At (Testing h (OtherField f s i))) w)
+    pub other-dot : (i : ℕ) → Passes (st (At (Testing h (OtherDot f s i))) w) (codes ".") (st (At (Testing h (OtherField f s i))) w)
     unfolding runs
     other-dot i = record { on = λ at rest. (at + 1, refl) }
 
-    other-field : (i : ℕ) (g : Field) → Passes (st (At (Testing h (OtherField f s i))) w) (spelling (Of g)) (st (At (Tested h)) (with-test w (record { what = field-number f; sign = sign-number s; step = i ∷ []; other = field-number g })))
+    pub other-field : (i : ℕ) (g : Field) → Passes (st (At (Testing h (OtherField f s i))) w) (spelling (Of g)) (st (At (Tested h)) (with-test w (record { what = field-number f; sign = sign-number s; step = i ∷ []; other = field-number g })))
     unfolding runs
     other-field i Who = record { on = λ at rest. (at + 1 + 1 + 1, refl) }
     other-field i Value = record { on = λ at rest. (at + 1 + 1 + 1 + 1 + 1, refl) }

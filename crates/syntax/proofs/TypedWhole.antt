@@ -81,11 +81,11 @@ steps-pass ss (s ∷ rest) l e =
 
 -- THE END
 
-within-on : (w : Built) → 0 < length (w .names) → w .nevers ≡ [] → Passes (st (At Item) w) (codes "within ") (st (At (Number Window)) w)
+pub within-on : (w : Built) → 0 < length (w .names) → length (w .nevers) ≡ 0 → Passes (st (At Item) w) (codes "within ") (st (At (Number Window)) w)
 unfolding runs
 within-on w l e =
     let a : ltb 0 (length (w .names)) ≡ true = lt-ltb _ _ l in
-    let b : eqb (length (w .nevers)) 0 ≡ true = eq-eqb _ _ (ap length e) in
+    let b : eqb (length (w .nevers)) 0 ≡ true = eq-eqb _ _ e in
     record { on = λ at rest. (at + 1 + 1 + 1 + 1 + 1 + 1 + 1, rw (a, b)) }
 
 late-on : (v : ℕ) (w : Built) → Passes (st (Digits Window v) w) (codes " late ") (st (At (Number (Lateness v))) w)

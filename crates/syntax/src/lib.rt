@@ -25,6 +25,7 @@ mod writing;
 
 pub use expects::Expected;
 pub use laws::read_may_be;
+pub use laws::refused_exactly;
 pub use laws::typed_reads_back;
 pub use reading::read;
 pub use refusals::Refusal;
