@@ -1,8 +1,8 @@
 -- What is added to what is read is fine.
-use mathlib.Core.Path.{_≡_, refl, sym, ap, _∙_}
-use mathlib.Core.Bool.{Bool, true, false, _&&_}
+use mathlib.Core.Path.{_≡_, refl}
+use mathlib.Core.Bool.{Bool, true, false}
 use mathlib.Core.List.{List, [], _∷_, _++_}
-use Prim.Native.Nat.{ℕ, zero, suc, _+_, _≤_, _<_}
+use Prim.Native.Nat.{ℕ, suc, _+_}
 use native.Mathlib.Omega.{arith}
 use lib.ListN.{length, length-append}
 use Rattle.std.proofs.shelf.Tests.{and-parts, and-from, lt-ltb, le-leb}
@@ -11,7 +11,6 @@ use Rattle.patterns.specs.Patterns.{Step}
 use Rattle.patterns.specs.Limits.{a-test, a-step, some-steps}
 use Rattle.patterns.specs.Reading.{a-never}
 use Rattle.syntax.specs.declared.places.Head.{Head}
-use Rattle.syntax.specs.declared.places.Comparison.{Comparison}
 use Rattle.syntax.specs.declared.places.Act.{Act}
 use Rattle.syntax.specs.declared.places.Act.the-variants.{Nothing, Test, End}
 use Rattle.syntax.specs.declared.places.Move.{Move}

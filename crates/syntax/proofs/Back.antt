@@ -1,12 +1,12 @@
 -- The row of a pattern that may be says that pattern.
 use mathlib.Core.Path.{_≡_, refl, sym, ap, _∙_}
-use mathlib.Core.Bool.{Bool, true, false, _&&_}
+use mathlib.Core.Bool.{true, _&&_}
 use mathlib.Core.List.{List, [], _∷_, _++_, append-assoc, append-nil}
-use Prim.Native.Nat.{ℕ, zero, suc, _+_, _*_, _≤_, _<_}
+use Prim.Native.Nat.{ℕ, suc, _+_, _*_}
 use native.Mathlib.Omega.{arith}
 use lib.Dec.{eqb, ltb, leb}
 use lib.ListN.{length, getD, take, drop, length-append}
-use lib.Seq.{drop-drop, drop-append-seam}
+use lib.Seq.{drop-append-seam}
 use Rattle.std.proofs.shelf.Tests.{and-parts, eqb-true}
 use Rattle.timeline.specs.Lists.{pick, every, none-of, flat}
 use Rattle.patterns.specs.Patterns.{Test, Never, Step, Pattern}

@@ -1,5 +1,5 @@
 -- A letter that is free: of more letters than there are names, one is no name.
-use mathlib.Core.Path.{_≡_, refl, sym, ap, _∙_}
+use mathlib.Core.Path.{_≡_, refl, sym, _∙_}
 use mathlib.Core.Bool.{Bool, true, false, not}
 use mathlib.Core.List.{List, [], _∷_}
 use Prim.Native.Nat.{ℕ, zero, suc, _+_, _≤_, _<_}
@@ -8,7 +8,7 @@ use lib.Dec.{eqb}
 use lib.ListN.{length}
 use Rattle.std.specs.declared.option.Option.{Option}
 use Rattle.std.specs.declared.option.Option.the-variants.{Some, None}
-use Rattle.std.proofs.shelf.Tests.{eqb-true, eqb-false, ne-eqb}
+use Rattle.std.proofs.shelf.Tests.{eqb-true}
 use Rattle.timeline.specs.Lists.{pick, those}
 use Rattle.syntax.specs.Names.{named-from}
 

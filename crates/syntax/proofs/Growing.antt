@@ -1,5 +1,5 @@
 -- Rows of numbers that grow with what they hold.
-use mathlib.Core.Path.{_≡_, refl, sym, ap, _∙_}
+use mathlib.Core.Path.{_≡_, sym, ap, _∙_}
 use mathlib.Core.List.{List, [], _∷_, _++_, append-assoc, append-nil}
 use Prim.Native.Nat.{ℕ, _+_}
 use native.Mathlib.Omega.{arith}
@@ -8,10 +8,8 @@ use Rattle.timeline.specs.Lists.{flat}
 use Rattle.patterns.specs.Patterns.{Test, Never, Step}
 use Rattle.patterns.specs.Kept.{test-cells}
 use Rattle.syntax.specs.declared.cells.Cells.{Cells}
-use Rattle.syntax.specs.declared.places.Head.{Head}
 use Rattle.syntax.specs.Cells.{held, Holds}
 use Rattle.syntax.specs.Rows.{never-row, step-row}
-use Rattle.syntax.specs.Reading.{Built}
 
 pub flat-push : {A : Type 0} (f : A → List ℕ) (xs : List A) (x : A) → flat f (xs ++ (x ∷ [])) ≡ flat f xs ++ f x
 unfolding flat

@@ -2,6 +2,7 @@ mod Looking
 mod Growing
 mod Sound
 mod Adding
+mod Moving
 mod Fitting
 mod Room
 mod Staying
@@ -14,5 +15,6 @@ mod TypedItems
 mod TypedWhole
 mod Texts
 mod Free
+mod Endings
 mod Living
 mod Stopping

@@ -1,13 +1,13 @@
 -- Wherever a reader stands, some text goes on to a pattern.
-use mathlib.Core.Path.{_≡_, refl, sym, ap, subst, _∙_}
-use mathlib.Core.Bool.{Bool, true, false, _&&_, not}
-use mathlib.Core.List.{List, [], _∷_, _++_}
-use Prim.Native.Nat.{ℕ, zero, suc, _+_, _-_, _≤_, _<_}
+use mathlib.Core.Path.{_≡_, refl, ap, _∙_}
+use mathlib.Core.Bool.{Bool, true, false}
+use mathlib.Core.List.{[], _∷_}
+use Prim.Native.Nat.{ℕ, zero, suc, _+_, _-_, _<_}
 use native.Mathlib.Omega.{arith}
 use native.Mathlib.Numerals.{add-one}
 use lib.Chars.{codes}
 use lib.Dec.{eqb, ltb}
-use lib.ListN.{length, getD, drop, drop-of-length-le, length-append}
+use lib.ListN.{length, getD, drop, drop-of-length-le}
 use lib.Seq.{drop-cons}
 use Rattle.std.specs.declared.option.Option.the-variants.{Some, None}
 use Rattle.std.proofs.shelf.Tests.{lt-ltb, le-ltb, ltb-true, ltb-false, eq-eqb}
@@ -16,7 +16,6 @@ use Rattle.patterns.specs.declared.fields.Field.{Field}
 use Rattle.patterns.specs.declared.fields.Field.the-variants.{Who}
 use Rattle.patterns.specs.declared.fields.Sign.{Sign}
 use Rattle.patterns.specs.declared.fields.Sign.the-variants.{Equal}
-use Rattle.patterns.specs.Patterns.{Pattern}
 use Rattle.syntax.specs.declared.words.Word.{Word}
 use Rattle.syntax.specs.declared.places.Head.{Head}
 use Rattle.syntax.specs.declared.places.Slot.{Slot}
@@ -30,116 +29,15 @@ use Rattle.syntax.specs.declared.places.Stand.the-variants.{At, Rest, Digits}
 use Rattle.syntax.specs.declared.places.Comparison.{Comparison}
 use Rattle.syntax.specs.declared.places.Act.the-variants.{Test, End}
 use Rattle.syntax.specs.Words.{letter, digit, spelling}
-use Rattle.syntax.specs.Names.{step-named}
 use Rattle.syntax.specs.Rules.{goes, spelled}
-use Rattle.syntax.specs.Reading.{Built, State, means, with-never, with-step, with-act, ready, next, runs}
+use Rattle.syntax.specs.Reading.{Built, with-never, with-act, ready, next, runs}
 use Rattle.syntax.specs.Typed.{sign-text}
-use Rattle.syntax.proofs.Sound.{Fine-head, Fine-slot, Fine-place, Fine-stand, Sound}
-use Rattle.syntax.proofs.Fitting.{head-kept}
-use Rattle.syntax.proofs.Letters.{Lettered, lettered, lettered-by}
+use Rattle.syntax.proofs.Sound.{Fine-head, Fine-slot, Fine-place, Fine-stand}
+use Rattle.syntax.proofs.Moving.{head-kept}
+use Rattle.syntax.proofs.Letters.{lettered-by}
 use Rattle.syntax.proofs.Passing.{st, Passes, then, pass-byte, pass-begin}
-use Rattle.syntax.proofs.Free.{Free, free}
-use Rattle.syntax.proofs.TypedTests.{with-test, own-dot, own-field, own-sign, other-dot, other-field}
-use Rattle.syntax.proofs.TypedItems.{step-space}
-use Rattle.syntax.proofs.TypedWhole.{within-on}
-
-pub record Live (s : State) : Type 0 where
-  pub more : List ℕ
-  pub pattern : Pattern
-  pub ends : (at : ℕ) → runs at s more ≡ means pattern
-
-live-by : {s t : State} (xs : List ℕ) → Passes s xs t → Live t → Live s
-live-by xs p l = record { more = xs ++ l .more; pattern = l .pattern; ends = λ at. let a = p .on at (l .more) in a .1 ∙ l .ends (a .0) }
-
--- THE END
-
-module _ (w : Built) where
-  live-whole : (t l : ℕ) → Live (st (At (Whole t l)) w)
-  unfolding runs
-  live-whole t l = record { more = []; pattern = record { steps = w .steps; within = t; late = l }; ends = λ at. refl }
-
-  live-late-digits : (t l : ℕ) → Live (st (Digits (Lateness t) l) w)
-  unfolding runs
-  live-late-digits t l = record { more = []; pattern = record { steps = w .steps; within = t; late = l }; ends = λ at. refl }
-
-  live-lateness : (t : ℕ) → Live (st (At (Number (Lateness t))) w)
-  unfolding runs
-  live-lateness t = record { more = codes "0"; pattern = record { steps = w .steps; within = t; late = 0 }; ends = λ at. refl }
-
-  live-late-word : (t : ℕ) → Live (st (At (LateWord t)) w)
-  unfolding runs
-  live-late-word t = record { more = codes "late0"; pattern = record { steps = w .steps; within = t; late = 0 }; ends = λ at. refl }
-
-  live-window-digits : (t : ℕ) → Live (st (Digits Window t) w)
-  unfolding runs
-  live-window-digits t = record { more = codes "late0"; pattern = record { steps = w .steps; within = t; late = 0 }; ends = λ at. refl }
-
-  live-window : Live (st (At (Number Window)) w)
-  unfolding runs
-  live-window = record { more = codes "0late0"; pattern = record { steps = w .steps; within = 0; late = 0 }; ends = λ at. refl }
-
-  live-some : 0 < length (w .names) → length (w .nevers) ≡ 0 → Live (st (At Item) w)
-  live-some l e = live-by (codes "within ") (within-on w l e) live-window
-
--- STEPS AND NEVERS
-
-named-end : (h : Head) (w : Built) → Passes (st (At (Named h)) w) (codes ";") (st (At Item) (with-act w (End h)))
-unfolding runs
-named-end h w = record { on = λ at rest. (at + 1, refl) }
-
-tested-end : (h : Head) (w : Built) → Passes (st (At (Tested h)) w) (codes ";") (st (At Item) (with-act w (End h)))
-unfolding runs
-tested-end h w = record { on = λ at rest. (at + 1, refl) }
-
--- a step of any name goes on
-live-step : (w : Built) (h : Head) → Live (st (At Item) (with-step w h))
-live-step w h = live-some (with-step w h) (rw (length-append (w .names) (h .name ∷ [])) (omega arith)) refl
-
-module _ (w : Built) (few : length (w .names) < 6) where
-  live-step-name : (k : ℕ) → Live (st (At (StepName k)) w)
-  live-step-name k =
-      let f = free 6 97 (w .names) few in
-      let b = f .letter in
-      let h : Head = record { never = false; kind = k; name = b } in
-      let is = lettered b (f .low) (omega (arith, f .high)) in
-      let is-letter = is .letter in
-      let new : step-named b (w .names) ≡ None = f .new in
-      live-by (b ∷ []) (pass-begin b (StepName k) w (goes (At (Named h))) (is .digit) (is .white) (rw (is-letter, new)))
-      (live-by (codes ";") (named-end h w) (live-step w h))
-
-  live-step-digits : (k : ℕ) → Live (st (Digits StepKind k) w)
-  live-step-digits k = live-by (32 ∷ []) (step-space k w) (live-step-name k)
-
-  item-zero : Passes (st (At Item) w) (codes "0") (st (Digits StepKind 0) w)
-  unfolding runs
-  item-zero = let e : ltb (length (w .names)) 6 ≡ true = lt-ltb _ _ few in record { on = λ at rest. (at + 1, rw e) }
-
-  -- a step may always come where there is room
-  live-new : Live (st (At Item) w)
-  live-new = live-by (codes "0") item-zero (live-step-digits 0)
-
-live-ended : (h : Head) (w : Built) → Fine-head h w → Live (st (At Item) (with-act w (End h)))
-live-ended h w f = by (h .never)
-  where
-    by : (t : Bool) → Live (st (At Item) (pick t (with-never w h) (with-step w h)))
-    by true = live-new (with-never w h) (f .steps)
-    by false = live-step w h
-
-never-end : (k : ℕ) (w : Built) → Passes (st (At (NeverName k)) w) (codes ";") (st (At Item) (with-act w (End (record { never = true; kind = k; name = 0 }))))
-unfolding runs
-never-end k w = record { on = λ at rest. (at + 1, refl) }
-
-never-digits-end : (k : ℕ) (w : Built) → Passes (st (Digits NeverKind k) w) (codes ";") (st (At Item) (with-act w (End (record { never = true; kind = k; name = 0 }))))
-unfolding runs
-never-digits-end k w = record { on = λ at rest. (at + 1, refl) }
-
-never-zero : (w : Built) → Passes (st (At (Number NeverKind)) w) (codes "0") (st (Digits NeverKind 0) w)
-unfolding runs
-never-zero w = record { on = λ at rest. (at + 1, refl) }
-
-step-zero : (w : Built) → Passes (st (At (Number StepKind)) w) (codes "0") (st (Digits StepKind 0) w)
-unfolding runs
-step-zero w = record { on = λ at rest. (at + 1, refl) }
+use Rattle.syntax.proofs.TypedTests.{own-dot, own-field, own-sign, other-dot, other-field}
+use Rattle.syntax.proofs.Endings.{Live, live-by, live-whole, live-late-digits, live-lateness, live-late-word, live-window-digits, live-window, live-some, named-end, tested-end, live-step-name, live-step-digits, live-new, live-ended, never-end, never-digits-end, never-zero, step-zero}
 
 -- TESTS
 

@@ -2,7 +2,7 @@
 use mathlib.Core.Path.{_≡_, refl, sym, ap, _∙_}
 use mathlib.Core.Bool.{true}
 use mathlib.Core.List.{List, [], _∷_}
-use Prim.Native.Nat.{ℕ, _+_, _≤_, _<_}
+use Prim.Native.Nat.{ℕ, _+_, _≤_}
 use native.Mathlib.Omega.{arith}
 use lib.ListN.{length, take, drop}
 use Rattle.std.specs.declared.option.Option.{Option}
@@ -20,7 +20,7 @@ use Rattle.syntax.specs.declared.places.Stand.{Stand}
 use Rattle.syntax.specs.declared.places.Stand.the-variants.{At, Rest, Digits}
 use Rattle.syntax.specs.declared.refusals.Refusal.{Refusal}
 use Rattle.syntax.specs.declared.expects.Expected.{Expected}
-use Rattle.syntax.specs.Reading.{Built, State, Reading, means, refused, settled, ready, next, wanted, whole, by-some, ended, runs, begun, reads}
+use Rattle.syntax.specs.Reading.{Built, State, means, refused, settled, ready, next, wanted, whole, by-some, runs, begun, reads}
 use Rattle.syntax.specs.Rows.{pattern-row}
 use Rattle.syntax.specs.Readers.{Gives}
 use Rattle.syntax.specs.Laws.{Read-may-be}

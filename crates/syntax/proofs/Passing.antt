@@ -1,27 +1,24 @@
 -- A reader passes over a text: words and marks by computation, numbers digit by digit, names by what they are.
-use mathlib.Core.Path.{_≡_, refl, sym, ap, _∙_}
-use mathlib.Core.Bool.{Bool, true, false, _&&_}
+use mathlib.Core.Path.{_≡_, ap, _∙_}
+use mathlib.Core.Bool.{true, false}
 use mathlib.Core.List.{List, [], _∷_, _++_, append-assoc}
-use Prim.Native.Nat.{ℕ, zero, suc, _+_, _-_, _*_, _/_, _%_, _^_, _≤_, _<_}
+use Prim.Native.Nat.{ℕ, _+_, _-_, _*_, _/_, _%_, _^_, _≤_, _<_}
 use native.Mathlib.Omega.{arith}
-use lib.Dec.{eqb, ltb, leb}
+use lib.Dec.{ltb}
 use lib.ListN.{length}
-use Rattle.std.specs.declared.option.Option.{Option}
-use Rattle.std.specs.declared.option.Option.the-variants.{Some, None}
-use Rattle.std.specs.Options.{mapped}
+use Rattle.std.specs.declared.option.Option.the-variants.{Some}
 use Rattle.std.specs.Written.{decimal}
 use Rattle.std.proofs.shelf.Decimals.{decimal-by-steps}
 use Rattle.std.proofs.shelf.Tests.{lt-ltb}
 use Rattle.std.proofs.shelf.Ways.{tells}
-use Rattle.timeline.specs.Lists.{pick}
 use Rattle.syntax.specs.declared.places.Slot.{Slot}
 use Rattle.syntax.specs.declared.places.Slot.the-variants.{StepKind, NeverKind, Other, Window, Lateness}
 use Rattle.syntax.specs.declared.places.Place.{Place}
 use Rattle.syntax.specs.declared.places.Stand.{Stand}
-use Rattle.syntax.specs.declared.places.Stand.the-variants.{At, Rest, Digits}
+use Rattle.syntax.specs.declared.places.Stand.the-variants.{At, Digits}
 use Rattle.syntax.specs.declared.places.Move.{Move}
 use Rattle.syntax.specs.Words.{white, digit}
-use Rattle.syntax.specs.Rules.{slot-of, limit, numbered, begins, steps-on}
+use Rattle.syntax.specs.Rules.{slot-of, limit, numbered, begins}
 use Rattle.syntax.specs.Reading.{Built, State, refused, moved, settled, ready, next, wanted, by-some, runs}
 
 abbrev pub st : Stand → Built → State

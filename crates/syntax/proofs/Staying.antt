@@ -1,7 +1,7 @@
 -- A reader stays sound, byte by byte; and what it has read in the end is a pattern that may be.
-use mathlib.Core.Path.{_≡_, refl, sym, ap, subst, _∙_}
+use mathlib.Core.Path.{_≡_, refl, ap, subst, _∙_}
 use mathlib.Core.Bool.{Bool, true, false}
-use mathlib.Core.List.{List, [], _∷_}
+use mathlib.Core.List.{List}
 use Prim.Native.Nat.{ℕ, _+_, _≤_, _<_}
 use native.Mathlib.Omega.{arith}
 use native.Mathlib.Numerals.{add-one}
@@ -11,24 +11,20 @@ use Rattle.std.specs.declared.option.Option.{Option}
 use Rattle.std.specs.declared.option.Option.the-variants.{Some, None}
 use Rattle.std.specs.declared.result.Result.the-variants.{Err}
 use Rattle.std.specs.Options.{mapped}
-use Rattle.std.proofs.shelf.Tests.{and-from, lt-ltb, le-leb}
 use Rattle.timeline.specs.Lists.{pick, every}
-use Rattle.patterns.specs.Patterns.{Pattern}
-use Rattle.patterns.specs.Limits.{a-pattern, some-steps}
-use Rattle.syntax.specs.declared.places.Place.{Place}
-use Rattle.syntax.specs.declared.places.Place.the-variants.{Item, Number, StepName, NeverName, Named, Testing, Tested, LateWord, Whole}
+use Rattle.patterns.specs.Limits.{some-steps}
 use Rattle.syntax.specs.declared.places.Stand.{Stand}
-use Rattle.syntax.specs.declared.places.Stand.the-variants.{At, Rest, Digits}
 use Rattle.syntax.specs.declared.places.Move.{Move}
 use Rattle.syntax.specs.declared.expects.Expected.{Expected}
 use Rattle.syntax.specs.declared.refusals.Refusal.the-variants.{At as refused-at}
 use Rattle.syntax.specs.Words.{digit}
 use Rattle.syntax.specs.Rules.{settle, steps-on}
-use Rattle.syntax.specs.Reading.{Built, State, Reading, means, refused, moved, settled, ready, next, wanted, whole, by-some, ended, runs, begun, reads}
+use Rattle.syntax.specs.Reading.{State, Reading, means, refused, moved, settled, ready, next, wanted, whole, by-some, ended, runs, begun}
 use Rattle.syntax.specs.Readers.{Answers}
-use Rattle.syntax.proofs.Sound.{Fine, Fine-stand, Fits, Sound}
+use Rattle.syntax.proofs.Sound.{Fits, Sound}
 use Rattle.syntax.proofs.Adding.{sound-move}
-use Rattle.syntax.proofs.Fitting.{settle-fine, fits-step}
+use Rattle.syntax.proofs.Moving.{settle-fine}
+use Rattle.syntax.proofs.Fitting.{fits-step}
 
 pub sound-begun : Sound begun
 unfolding every some-steps

@@ -1,17 +1,16 @@
 -- A text is refused at the first byte with which no pattern can go on.
 use mathlib.Core.Path.{_≡_, refl, sym, ap, _∙_}
 use mathlib.Core.List.{List, [], _∷_, _++_, append-assoc}
-use Prim.Native.Nat.{ℕ, zero, suc, _+_, _≤_, _<_}
+use Prim.Native.Nat.{ℕ, suc, _+_, _≤_, _<_}
 use native.Mathlib.Omega.{arith}
-use native.Mathlib.Numerals.{add-one}
 use lib.ListN.{length, getD, take}
 use Rattle.std.specs.declared.option.Option.{Option}
 use Rattle.std.specs.declared.option.Option.the-variants.{Some, None}
 use Rattle.std.proofs.shelf.Lists.{take-more}
 use Rattle.patterns.specs.Patterns.{Pattern}
 use Rattle.syntax.specs.declared.expects.Expected.{Expected}
-use Rattle.syntax.specs.Reading.{State, Reading, means, refused, settled, ready, next, wanted, whole, by-some, ended, runs, begun, reads}
-use Rattle.syntax.specs.Laws.{Stops, Refused-exactly}
+use Rattle.syntax.specs.Reading.{State, means, refused, settled, ready, next, wanted, whole, by-some, ended, runs, begun, reads}
+use Rattle.syntax.specs.Laws.{Refused-exactly}
 use Rattle.syntax.proofs.Sound.{Sound}
 use Rattle.syntax.proofs.Staying.{sound-begun, sound-ready, sound-next}
 use Rattle.syntax.proofs.Meaning.{no-pattern}

@@ -1,13 +1,12 @@
 -- A step or a never that is written is read as itself.
 use mathlib.Core.Path.{_≡_, refl, sym, ap, subst, _∙_}
-use mathlib.Core.Bool.{Bool, true, false, _&&_, not}
+use mathlib.Core.Bool.{true, false}
 use mathlib.Core.List.{List, [], _∷_, _++_, append-assoc, append-nil}
-use Prim.Native.Nat.{ℕ, zero, suc, _+_, _^_, _≤_, _<_}
+use Prim.Native.Nat.{ℕ, _+_, _≤_, _<_}
 use native.Mathlib.Omega.{arith}
 use lib.Chars.{codes}
 use lib.Dec.{ltb}
 use lib.ListN.{length, length-append}
-use Rattle.std.specs.declared.option.Option.{Option}
 use Rattle.std.specs.declared.option.Option.the-variants.{Some, None}
 use Rattle.std.specs.Written.{decimal}
 use Rattle.std.proofs.shelf.Tests.{and-parts, lt-ltb}
@@ -17,7 +16,6 @@ use Rattle.patterns.specs.Limits.{a-test}
 use Rattle.syntax.specs.declared.places.Head.{Head}
 use Rattle.syntax.specs.declared.places.Slot.the-variants.{StepKind, NeverKind}
 use Rattle.syntax.specs.declared.places.Part.the-variants.{Own}
-use Rattle.syntax.specs.declared.places.Place.{Place}
 use Rattle.syntax.specs.declared.places.Place.the-variants.{Item, Number, StepName, NeverName, Named, Testing, Tested}
 use Rattle.syntax.specs.declared.places.Stand.the-variants.{At, Digits}
 use Rattle.syntax.specs.declared.places.Act.the-variants.{End}

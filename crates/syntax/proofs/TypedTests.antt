@@ -1,14 +1,13 @@
 -- A test that is written is read as itself.
-use mathlib.Core.Path.{_≡_, refl, sym, ap, subst, _∙_}
-use mathlib.Core.Bool.{Bool, true, false, _&&_}
+use mathlib.Core.Path.{_≡_, refl, ap, subst, _∙_}
+use mathlib.Core.Bool.{true, false, _&&_}
 use mathlib.Core.List.{List, [], _∷_, _++_, append-assoc}
-use Prim.Native.Nat.{ℕ, zero, suc, _+_, _^_, _≤_, _<_}
+use Prim.Native.Nat.{ℕ, zero, suc, _+_, _≤_, _<_}
 use native.Mathlib.Omega.{arith}
 use lib.Chars.{codes}
-use lib.Dec.{eqb, ltb, leb}
+use lib.Dec.{eqb, ltb}
 use lib.ListN.{length}
-use Rattle.std.specs.declared.option.Option.the-variants.{Some, None}
-use Rattle.std.specs.Options.{mapped}
+use Rattle.std.specs.declared.option.Option.the-variants.{Some}
 use Rattle.std.proofs.shelf.Tests.{and-parts, eq-eqb, eqb-true, ltb-true}
 use Rattle.timeline.specs.Lists.{pick, every, none-of, run}
 use Rattle.patterns.specs.declared.fields.Field.{Field}
@@ -23,12 +22,12 @@ use Rattle.syntax.specs.declared.places.Head.{Head}
 use Rattle.syntax.specs.declared.places.Slot.the-variants.{Other}
 use Rattle.syntax.specs.declared.places.Part.the-variants.{Own, OwnDot, What, How, Against, OtherDot, OtherField}
 use Rattle.syntax.specs.declared.places.Place.the-variants.{Testing, Tested}
-use Rattle.syntax.specs.declared.places.Stand.the-variants.{At, Digits}
+use Rattle.syntax.specs.declared.places.Stand.the-variants.{At}
 use Rattle.syntax.specs.Words.{white, digit, spelling}
 use Rattle.syntax.specs.Names.{step-named}
 use Rattle.syntax.specs.Rules.{goes}
 use Rattle.syntax.specs.Reading.{Built, State, runs}
-use Rattle.syntax.specs.Typed.{step-letter, typed-field, sign-text, typed-other, typed-test}
+use Rattle.syntax.specs.Typed.{step-letter, sign-text, typed-other, typed-test}
 use Rattle.syntax.proofs.Letters.{Lettered, lettered, found}
 use Rattle.syntax.proofs.Passing.{st, Passes, then, pass-begin, pass-number, pass-end}
 

@@ -1,8 +1,8 @@
 -- A pattern that is written is read as itself.
 use mathlib.Core.Path.{_≡_, refl, sym, ap, subst, _∙_}
-use mathlib.Core.Bool.{Bool, true, false, _&&_}
+use mathlib.Core.Bool.{true, _&&_}
 use mathlib.Core.List.{List, [], _∷_, _++_, append-assoc, append-nil}
-use Prim.Native.Nat.{ℕ, zero, suc, _+_, _^_, _≤_, _<_}
+use Prim.Native.Nat.{ℕ, suc, _+_, _≤_, _<_}
 use native.Mathlib.Omega.{arith}
 use lib.Chars.{codes}
 use lib.Dec.{eqb, ltb, leb}
@@ -10,17 +10,17 @@ use lib.ListN.{length, length-append}
 use Rattle.std.specs.Written.{decimal}
 use Rattle.std.proofs.shelf.Tests.{and-parts, eq-eqb, lt-ltb, ltb-true, leb-true}
 use Rattle.timeline.specs.Lists.{every, flat, run}
-use Rattle.patterns.specs.Patterns.{Test, Never, Step, Pattern}
+use Rattle.patterns.specs.Patterns.{Never, Step, Pattern}
 use Rattle.patterns.specs.Limits.{a-test, some-tests, a-step, some-steps, a-pattern}
 use Rattle.patterns.specs.Reading.{a-never}
 use Rattle.syntax.specs.declared.places.Slot.the-variants.{NeverKind, Window, Lateness}
-use Rattle.syntax.specs.declared.places.Place.the-variants.{Item, Number, LateWord}
+use Rattle.syntax.specs.declared.places.Place.the-variants.{Item, Number}
 use Rattle.syntax.specs.declared.places.Stand.the-variants.{At, Digits}
-use Rattle.syntax.specs.Reading.{Built, State, Reading, means, runs, reads}
-use Rattle.syntax.specs.Typed.{typed-item, typed-never, typed-step, typed-steps, typed}
+use Rattle.syntax.specs.Reading.{Built, means, runs, reads}
+use Rattle.syntax.specs.Typed.{typed-never, typed-step, typed-steps, typed}
 use Rattle.syntax.proofs.Letters.{length-run, run-push}
 use Rattle.syntax.proofs.Passing.{st, Passes, then, pass-number}
-use Rattle.syntax.proofs.TypedItems.{passes-as, passes-to, step-item, never-item}
+use Rattle.syntax.proofs.TypedItems.{passes-to, step-item, never-item}
 
 -- steps that are whole under their letters, and nevers of the next
 abbrev after : List Step → List Never → Built

@@ -13,27 +13,7 @@ use Rattle.syntax.specs.declared.places.Place.the-variants.{Item, Number, Step
 use Rattle.syntax.specs.declared.places.Stand.{Stand}
 use Rattle.syntax.specs.declared.places.Stand.the-variants.{At, Rest, Digits}
 use Rattle.syntax.specs.declared.expects.Expected.{Expected}
-use Rattle.syntax.specs.declared.expects.Expected.the-variants.{
-  KindOrNot,
-  KindNotOrWithin,
-  Kind,
-  Within,
-  Name,
-  NameOrEnd,
-  WhereOrEnd,
-  OwnName,
-  Dot,
-  Field,
-  Sign,
-  OnlyNumber,
-  NumberOrName,
-  AndOrEnd,
-  End,
-  LengthOfTime,
-  Late,
-  Nothing,
-  RestOf,
-}
+use Rattle.syntax.specs.declared.expects.Expected.the-variants.{KindOrNot, KindNotOrWithin, Kind, Within, Name, NameOrEnd, WhereOrEnd, OwnName, Dot, Field, Sign, OnlyNumber, NumberOrName, AndOrEnd, End, LengthOfTime, Late, Nothing, RestOf}
 
 abbrev pub expects-item : ℕ → ℕ → Expected
 expects-item steps nevers =

@@ -1,12 +1,10 @@
 -- The steps by their names: which one has a letter.
 -- Assumes nothing: these are definitions.
-use mathlib.Core.Bool.{Bool, true, false}
 use mathlib.Core.List.{List, [], _∷_}
 use Prim.Native.Nat.{ℕ, _+_}
 use lib.Dec.{eqb}
 use Rattle.std.specs.declared.option.Option.{Option}
 use Rattle.std.specs.declared.option.Option.the-variants.{Some, None}
-use Rattle.std.specs.Options.{isSome}
 use Rattle.timeline.specs.Lists.{pick}
 
 -- the place of a letter in a row of letters that are the names of the steps from n on

@@ -13,7 +13,7 @@ use Rattle.syntax.specs.declared.readers.Reader.{Reader}
 use Rattle.syntax.specs.declared.refusals.Refusal.{Refusal}
 use Rattle.syntax.specs.declared.refusals.Refusal.the-variants.{At, Short}
 use Rattle.syntax.specs.Rows.{pattern-row}
-use Rattle.syntax.specs.Reading.{State, Reading, means, refused, next, reads}
+use Rattle.syntax.specs.Reading.{State, Reading, means, refused, next}
 use Rattle.syntax.specs.Drafts.{Drawn}
 
 pub record Stands (r : Reader) (s : State) : Type 0 where

@@ -1,6 +1,5 @@
 -- What a text reads as: a pattern, or the byte at which no pattern can go on and what could have stood there.
 -- Assumes nothing: these are definitions.
-use mathlib.Core.Bool.{Bool}
 use mathlib.Core.List.{List, [], _∷_, _++_}
 use Prim.Native.Nat.{ℕ, _+_}
 use lib.ListN.{length}
@@ -12,7 +11,6 @@ use Rattle.timeline.specs.Lists.{pick}
 use Rattle.patterns.specs.Patterns.{Test, Never, Step, Pattern}
 use Rattle.patterns.specs.Codes.{field-number, sign-number}
 use Rattle.syntax.specs.declared.places.Head.{Head}
-use Rattle.syntax.specs.declared.places.Place.{Place}
 use Rattle.syntax.specs.declared.places.Place.the-variants.{Item, Number, StepName, NeverName, Named, Testing, Tested, LateWord, Whole}
 use Rattle.syntax.specs.declared.places.Stand.{Stand}
 use Rattle.syntax.specs.declared.places.Stand.the-variants.{At, Rest, Digits}

@@ -10,7 +10,6 @@ use Rattle.std.specs.declared.option.Option.the-variants.{Some, None}
 use Rattle.std.specs.Options.{isSome, mapped}
 use Rattle.timeline.specs.Lists.{pick}
 use Rattle.patterns.specs.declared.fields.Field.{Field}
-use Rattle.patterns.specs.declared.fields.Sign.{Sign}
 use Rattle.patterns.specs.declared.fields.Sign.the-variants.{Equal, Below, NotBelow}
 use Rattle.patterns.specs.Codes.{field-number}
 use Rattle.syntax.specs.declared.words.Word.{Word}
@@ -25,7 +24,6 @@ use Rattle.syntax.specs.declared.places.Place.the-variants.{Item, Number, Step
 use Rattle.syntax.specs.declared.places.Stand.{Stand}
 use Rattle.syntax.specs.declared.places.Stand.the-variants.{At, Rest, Digits}
 use Rattle.syntax.specs.declared.places.Comparison.{Comparison}
-use Rattle.syntax.specs.declared.places.Act.{Act}
 use Rattle.syntax.specs.declared.places.Act.the-variants.{Nothing, Test, End}
 use Rattle.syntax.specs.declared.places.Move.{Move}
 use Rattle.syntax.specs.Words.{white, digit, letter, spelling, field-begun}

@@ -9,7 +9,7 @@ use Rattle.patterns.specs.declared.fields.Sign.{Sign}
 use Rattle.patterns.specs.declared.fields.Sign.the-variants.{Equal, Below, NotBelow}
 use Rattle.patterns.specs.Codes.{field-numbered, sign-numbered}
 use Rattle.patterns.specs.Patterns.{Test, Never, Step, Pattern}
-use Rattle.syntax.specs.declared.words.Word.the-variants.{Of, AtLeast}
+use Rattle.syntax.specs.declared.words.Word.the-variants.{Of}
 use Rattle.syntax.specs.Words.{spelling}
 
 -- the letter of a step, of which there are 26

@@ -1,6 +1,6 @@
 // A draft as it grows: tests, nevers and steps put at its end.
 ghost use mathlib.Core.Path.{_≡_};
-ghost use mathlib.Core.List.{[], _∷_};
+ghost use mathlib.Core.List.{[]};
 ghost use Prim.Native.Nat.{_+_};
 ghost use Rattle.patterns.specs.Kept.{test-cells};
 ghost use Rattle.syntax.specs.Reading.{Built, test-of, with-never, with-step, with-act};

@@ -1,7 +1,6 @@
 // Names, words and marks: where a reader stands after the first byte of one. None: no pattern goes on with this byte.
 ghost use mathlib.Core.Path.{_≡_};
 ghost use lib.Dec.{eqb};
-ghost use lib.ListN.{length};
 ghost use Rattle.syntax.specs.Names.{step-named};
 ghost use Rattle.syntax.specs.declared.places.Stand.the-variants.{At};
 ghost use Rattle.syntax.specs.Rules.{goes, only-if, begins-item, begins-name, begins-sign, begins-part, begins};

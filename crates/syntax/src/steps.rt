@@ -1,8 +1,6 @@
 // One byte of a text: where a reader stands after it.
 ghost use mathlib.Core.Path.{_≡_};
 ghost use Prim.Native.Nat.{_<_};
-ghost use lib.ListN.{length};
-ghost use Rattle.syntax.specs.Words.{spelling};
 ghost use Rattle.syntax.specs.Rules.{settle, spelled, steps-on};
 use crate::places::Move;
 use crate::places::Place;

@@ -1,7 +1,6 @@
 // The words and marks of a typed pattern, and which bytes are white, digits and letters.
 ghost use mathlib.Core.Path.{_≡_};
 ghost use Prim.Native.Nat.{_<_};
-ghost use lib.ListN.{length, getD};
 ghost use Rattle.syntax.specs.Words.{white, digit, letter, spelling, field-begun};
 ghost use Rattle.patterns.specs.Codes.{field-number, sign-number};
 use patterns::Field;

@@ -1,9 +1,7 @@
-use mathlib.Core.Path.{_≡_, refl, sym, ap, subst, _∙_}
+use mathlib.Core.Path.{_≡_, refl, sym, ap, _∙_}
 use native.Mathlib.Omega.{arith}
 use lib.ListN.{length, getD}
-use Rattle.syntax.specs.Reading.{State, refused, begun, settled, ready, wanted, whole}
-use Rattle.syntax.specs.Readers.{Stands}
-use Rattle.syntax.proofs.Sound.{Sound}
+use Rattle.syntax.specs.Reading.{refused, begun, settled, ready, wanted, whole}
 use Rattle.syntax.proofs.Room.{roomy}
 use Rattle.syntax.proofs.Staying.{sound-begun, sound-settled, sound-ready, sound-next, left-on, left-refused, left-none, answered-at, ended-whole, ended-not}
 use Rattle.syntax.proofs.Meaning.{meant-may-be, given-may-be}

@@ -1,4 +1,4 @@
-use mathlib.Core.Path.{_≡_, sym, _∙_}
+use mathlib.Core.Path.{sym, _∙_}
 use Rattle.syntax.proofs.Looking.{here, later, none}
 use Rattle.syntax.proofs.rules.step_named.Needs as need
 

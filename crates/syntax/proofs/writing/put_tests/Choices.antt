@@ -1,6 +1,6 @@
 use mathlib.Core.Path.{_≡_}
 use mathlib.Core.List.{_++_}
-use Prim.Native.Nat.{_+_, _-_, _*_, _≤_}
+use Prim.Native.Nat.{_+_, _-_, _*_}
 use Rattle.std.specs.Of.String.{string-bytes}
 use Rattle.timeline.specs.Lists.{each, run}
 use Rattle.patterns.specs.Kept.{kept-test, kept-tests}

@@ -1,7 +1,5 @@
-use mathlib.Core.Path.{_≡_, sym, ap, _∙_}
-use mathlib.Core.List.{[], _∷_, _++_}
-use native.Mathlib.Omega.{arith}
-use lib.ListN.{length, length-append}
+use mathlib.Core.Path.{sym, ap, _∙_}
+use mathlib.Core.List.{_++_}
 use Rattle.timeline.specs.Lists.{flat}
 use Rattle.patterns.specs.Kept.{test-cells}
 use Rattle.syntax.specs.Reading.{test-of}

@@ -1,6 +1,5 @@
-use mathlib.Core.Path.{_≡_, refl, sym, ap, _∙_}
-use mathlib.Core.List.{[], _∷_, _++_}
-use lib.ListN.{length}
+use mathlib.Core.Path.{refl, _∙_}
+use mathlib.Core.List.{[], _∷_}
 use Rattle.timeline.specs.Lists.{flat}
 use Rattle.patterns.specs.Kept.{test-cells}
 use Rattle.syntax.specs.Rows.{never-row, step-row}
