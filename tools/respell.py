@@ -70,7 +70,30 @@ def declared():
     return names
 
 
+def crates():
+    return {path.split("/")[1] for path in glob.glob("crates/*/")}
+
+
+def kept_here(text):
+    """What a file brings in from libraries, of the kit's names: these keep their spelling."""
+    ours = crates()
+    kept = set()
+    for path, items in re.findall(r"(?m)^(?:ghost )?(?:pub )?use ([A-Za-z0-9_.·]+)\.\{([^}]*)\}", text):
+        if not (path.startswith("Rattle.") and path.split(".")[1] in ours):
+            for item in items.split(","):
+                word = item.strip().split(" as ")[0].strip()
+                kept.add(word)
+    return kept
+
+
+def here(text, names):
+    kept = kept_here(text)
+    return {old: new for old, new in names.items() if old not in kept}
+
+
 def respell_text(text, names):
+    names = here(text, names)
+
     def one(m):
         return names.get(m.group(0), m.group(0))
 
@@ -79,6 +102,7 @@ def respell_text(text, names):
 
 def respell_proof(text, names):
     """Of an answer's file: the names that Rattle makes stay (`goal.X`, `c.X`, and X itself)."""
+    names = here(text, names)
     made = set(re.findall(r"(?:goal|need|given)\.([^\s]+)", text))
     out = []
     for line in text.split("\n"):
@@ -89,11 +113,10 @@ def respell_proof(text, names):
                 return token
             if token in made and (before == "" or before.endswith("pub ") or before.strip() in ("abbrev", "abbrev pub")):
                 return token
-            if token in made_fields and before.endswith("."):
+            if token in made and before.endswith("."):
                 return token
             return names.get(token, token)
 
-        made_fields = made
         out.append(TOKEN.sub(one, line))
     return "\n".join(out)
 

@@ -1,7 +1,7 @@
 -- A number's digits, written from the last one on.
 use Rattle.std.proofs.Common.{◌≡◌, ℕ, zero, suc, ◌+◌, ◌-◌, ◌*◌, ◌/◌, ◌%◌, ◌^◌, ◌<◌, ◌≤◌, Bool, true, false, ltb, List, [], ◌∷◌, ◌++◌, length, drop, set, decimal, sym, refl, ap, ◌∙◌, append_assoc, pow-suc, arith}
 use Rattle.std.proofs.lemmas.Fmt.{decimal_digit, decimal_step}
-use Rattle.std.proofs.lemmas.List.{length-set, drop_set, drop_all}
+use Rattle.std.proofs.lemmas.List.{length-set, drop-set, drop_all}
 use Rattle.std.proofs.lemmas.Bool.{lt-ltb, le-ltb, ltb-true, ltb-false}
 use Rattle.timeline.specs.Lists.{pick}
 
@@ -29,7 +29,7 @@ begins n bytes l k =
     record {
       are =
           all_digits n l
-          ∙ ap (λ ds. before_last n ++ ds) (sym (drop_set bytes 19 (48 + n % 10) (omega arith) ∙ ap (λ ds. (48 + n % 10) ∷ ds) (drop_all 20 bytes (omega arith))));
+          ∙ ap (λ ds. before_last n ++ ds) (sym (drop-set bytes 19 (48 + n % 10) (omega arith) ∙ ap (λ ds. (48 + n % 10) ∷ ds) (drop_all 20 bytes (omega arith))));
       small = omega arith;
       inside = omega arith;
       long = length-set bytes 19 (48 + n % 10) ∙ k;
@@ -50,7 +50,7 @@ goes_on n rest (suc k) bytes w l =
     let t : ltb rest 10 ≡ false = le-ltb rest 10 l in
     let v = 48 + (rest / 10) % 10 in
     let u : k + 1 ≡ suc k = omega arith in
-    let d : drop k (set bytes k v) ≡ v ∷ drop (suc k) bytes = rw u at (drop_set bytes k v (omega (arith, w.inside, w.long))) in
+    let d : drop k (set bytes k v) ≡ v ∷ drop (suc k) bytes = rw u at (drop-set bytes k v (omega (arith, w.inside, w.long))) in
     let fine : rest / 10 < 2 ^ 64 = omega (arith, w.fits) in
     let a : decimal n ≡ decimal (rest / 10) ++ drop (suc k) bytes = rw t at w.are in
     rw e

@@ -1,7 +1,7 @@
 -- The listener's memory never grows, nor do its numbers: for every memory and whatever it is told.
 use Rattle.std.proofs.Common.{◌≡◌, ℕ, zero, suc, Bool, true, false, ◌&&◌, eqb, List, length, get_or, drop, replicate, Some, None, sym, refl, ap, ◌∙◌, arith}
 use Rattle.std.proofs.ByRecursion.{All-take, All-drop}
-use Rattle.std.proofs.lemmas.List.{length_take, length-drop, length-replicate}
+use Rattle.std.proofs.lemmas.List.{length-take, length-drop, length-replicate}
 use Rattle.std.proofs.lemmas.Bool.{and_parts, eqb-true}
 use Rattle.std.proofs.lemmas.Bool.Decides.{nat_tests as by_tests}
 use Rattle.timeline.specs.Lists.{pick, every}
@@ -33,7 +33,7 @@ module _ (m : List ℕ) (long : length m ≡ memory_long) where
   stays m₁ w = (w.long ∙ sym long, w.smalls)
 
   cells_wide : length (cells_of m) ≡ 405
-  cells_wide = length_take 405 (drop 14 m) ∙ omega (arith, length-drop 14 m)
+  cells_wide = length-take 405 (drop 14 m) ∙ omega (arith, length-drop 14 m)
 
   ring_whole : length (ring_of m) ≡ ring_long
   ring_whole = length-drop 419 m ∙ omega arith

@@ -1,6 +1,6 @@
 -- A telling, row by row: from a cursor the listener tells all rows that are still to come, one an act, and then settles.
 use Rattle.std.proofs.Common.{◌≡◌, ℕ, zero, suc, ◌+◌, ◌-◌, ◌<◌, ◌≤◌, Bool, true, false, ◌&&◌, List, [], ◌∷◌, ◌++◌, length, get_or, take, drop, Some, None, Option, sym, refl, ap, ◌∙◌, subst, ap₂, arith}
-use Rattle.std.proofs.lemmas.List.{length-append, length_take, length-drop}
+use Rattle.std.proofs.lemmas.List.{length-append, length-take, length-drop}
 use Rattle.timeline.specs.declared.events.Event.{Event}
 use Rattle.timeline.specs.Lists.{pick, each}
 use Rattle.timeline.specs.Order.{nth}
@@ -39,7 +39,7 @@ length_row : (h : List Event) (path : List ℕ) → length (numbers (row_of h pa
 length_row h path =
     length_each (λ e. e.heard) (row_of h path)
     ∙ length-append (each (nth h) (drop 1 (forward path))) (each (nth h) (take 1 (forward path)))
-    ∙ omega (arith, length_each (nth h) (drop 1 (forward path)), length_each (nth h) (take 1 (forward path)), length-drop 1 (forward path), length_take 1 (forward path), length_forward path)
+    ∙ omega (arith, length_each (nth h) (drop 1 (forward path)), length_each (nth h) (take 1 (forward path)), length-drop 1 (forward path), length-take 1 (forward path), length_forward path)
 
 take_six : (xs : List ℕ) → length xs ≤ 6 → take (length xs) (six xs) ≡ xs
 take_six [] l = refl

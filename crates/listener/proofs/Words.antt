@@ -1,7 +1,7 @@
 -- The memory taken apart and put together: what is written is what is read.
 use Rattle.std.proofs.Common.{◌≡◌, ℕ, suc, ◌+◌, ◌<◌, ◌≤◌, Bool, true, false, ◌&&◌, eqb, ltb, leb, List, [], ◌∷◌, ◌++◌, length, get_or, take, drop, Some, None, Option, sym, refl, ap, ◌∙◌, ap₂, arith}
-use Rattle.std.proofs.lemmas.List.{append-nil, drop-append-le, take-append-le, drop_take, length_take, length-take-le, drop_all, take_all, length-drop, drop_at, take_at, length-append, get_or_append_left, take-append-drop, append_assoc, drop-drop}
-use Rattle.std.proofs.lemmas.List.Edits.{sets_eq}
+use Rattle.std.proofs.lemmas.List.{append-nil, drop-append-le, take-append-le, drop-take, length-take, length-take-le, drop_all, take_all, length-drop, drop_at, take_at, length-append, get_or_append_left, take-append-drop, append_assoc, drop-drop}
+use Rattle.std.proofs.lemmas.List.Edits.{sets-eq}
 use lib.Seq.{sets}
 use borrow.Rule.Slice.PartMut.{put_mid}
 use Rattle.std.proofs.lemmas.Bool.Decides.{nat_tests}
@@ -85,7 +85,7 @@ pub stored :
     (m : List ℕ) (n : ℕ) (h : Head) → length m ≡ memory_long → length h.at ≡ 6
     → sets m 0 (n ∷ h.count ∷ h.latest ∷ h.start ∷ h.len ∷ h.known ∷ h.upto ∷ h.stale ∷ places h.at) ≡ (n ∷ head_words h) ++ (cells_of m ++ ring_of m)
 stored m n h long six-long =
-    sets_eq (n ∷ h.count ∷ h.latest ∷ h.start ∷ h.len ∷ h.known ∷ h.upto ∷ h.stale ∷ places h.at) m 0 (omega arith)
+    sets-eq (n ∷ h.count ∷ h.latest ∷ h.start ∷ h.len ∷ h.known ∷ h.upto ∷ h.stale ∷ places h.at) m 0 (omega arith)
     ∙ ap₂ (λ (xs r : List ℕ). (n ∷ h.count ∷ h.latest ∷ h.start ∷ h.len ∷ h.known ∷ h.upto ∷ h.stale ∷ xs) ++ r) (places_whole h.at six-long) (behind_head m)
 
 -- the ring lent, and given back
@@ -105,7 +105,7 @@ lent_length m l = ap length (ring_lent m l) ∙ length-drop 419 m ∙ omega arit
 pub cells_stay : (m r : List ℕ) → length m ≡ memory_long → cells_of (take 419 m ++ r) ≡ cells_of m
 cells_stay m r l =
     ap (take 405) (drop-append-le 14 (take 419 m) r (omega (arith, length-take-le 419 m (omega arith)))) ∙ take-append-le 405 (drop 14 (take 419 m)) r (omega (arith, length-drop 14 (take 419 m), length-take-le 419 m (omega arith)))
-    ∙ ap (take 405) (drop_take 14 405 m) ∙ take_all 405 (take 405 (drop 14 m)) (omega (arith, length_take 405 (drop 14 m)))
+    ∙ ap (take 405) (drop-take 14 405 m) ∙ take_all 405 (take 405 (drop 14 m)) (omega (arith, length-take 405 (drop 14 m)))
 
 pub ring_there : (m r : List ℕ) → length m ≡ memory_long → ring_of (take 419 m ++ r) ≡ r
 ring_there m r l = drop_at (take 419 m) r 419 (length-take-le 419 m (omega arith))

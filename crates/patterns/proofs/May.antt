@@ -1,7 +1,7 @@
 -- Which parts of a row may be: all of them together, from one to the next.
 use Rattle.std.proofs.Common.{◌≡◌, ℕ, ◌+◌, ◌<◌, ◌≤◌, Bool, true, false, ◌&&◌, leb, List, [], ◌∷◌, length, get_or, drop, set, refl, add-one, arith}
 use lib.Seq.{sets}
-use Rattle.std.proofs.lemmas.Bool.{and_from, and_right, le_leb, lt-leb}
+use Rattle.std.proofs.lemmas.Bool.{and_from, and_right, le-leb, lt-leb}
 use Rattle.std.proofs.lemmas.Bool.Decides.{nat_tests}
 use Rattle.timeline.specs.Lists.{every, none_of}
 use Rattle.patterns.specs.Patterns.{Test, Step}
@@ -33,7 +33,7 @@ module _ {A : Type 0} (f : A → Bool) where
     not_every e = and_right (leb (length xs) most) _ e
 
     pub few_enough : k ≤ most → every f xs ≡ true → (leb (length xs) most && every f xs) ≡ true
-    few_enough l e = and_from (leb (length xs) most) _ (le_leb _ _ (rw long l)) e
+    few_enough l e = and_from (leb (length xs) most) _ (le-leb _ _ (rw long l)) e
 
 as_test : (n w s o : ℕ) (st : List ℕ) → let t : Test = record { what = w; sign = s; step = st; other = o } in a_comparison n (comparison t) ≡ a_test n t
 unfolding every none_of

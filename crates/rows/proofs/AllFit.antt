@@ -1,6 +1,6 @@
 -- The rows that are found are those that fit: from the places of a row to what is said of it, and back.
 use Rattle.std.proofs.Common.{◌≡◌, ℕ, zero, suc, ◌+◌, ◌-◌, ◌<◌, ◌≤◌, Bool, true, false, not, ◌&&◌, leb, List, [], ◌∷◌, length, take, sym, refl, ap, ◌∙◌, subst, not-suc-le-zero, add-zero, arith, length-take-le}
-use Rattle.std.proofs.lemmas.Bool.{leb-true, le_leb, not-true, not_from_false, and_parts, and_from}
+use Rattle.std.proofs.lemmas.Bool.{leb-true, le-leb, not-true, not_from_false, and_parts, and_from}
 use Rattle.timeline.specs.declared.events.Event.{Event}
 use Rattle.timeline.specs.Lists.{pick, or, any, none_of}
 use Rattle.timeline.specs.Order.{before, sorted, nth, first_of, last_of}
@@ -133,7 +133,7 @@ module _ (p : Pattern) (es r : List Event) (f : Fits p es r) where
       let s = step_of p.steps (suc i) in
       let e = nth r (suc i) in
       let limit = (nth r 0).time + p.within in
-      let near = and_from (before (nth r i) e) (leb e.time limit) (f.in_time i h) (le_leb e.time limit (within (suc i) h)) in
+      let near = and_from (before (nth r i) e) (leb e.time limit) (f.in_time i h) (le-leb e.time limit (within (suc i) h)) in
       goes_next (sorted es) p.within r i s e (omega arith)
       ∙ and_from (fits_step (take (suc i) r) e s.kind s.tests) _ (f.passes (suc i) h) (and_from _ _ near (not_from_false _ (way_clear i h)))
 

@@ -1,7 +1,7 @@
 -- The positions chosen so far, as an array has them, and where a search can be.
 use Rattle.std.proofs.Common.{◌≡◌, ℕ, zero, suc, ◌+◌, ◌<◌, ◌≤◌, Bool, true, false, ◌&&◌, ltb, leb, ◌≢◌, List, [], ◌∷◌, ◌++◌, length, get_or, take, set, sym, refl, ap, ◌∙◌, ap₂, inl, inr, true≢false, append_assoc, eq-or-lt_of_le, arith, length-append, take-suc}
 use Rattle.std.proofs.lemmas.List.{get_or-set_other}
-use Rattle.std.proofs.lemmas.Bool.{and_parts, cases_Bool, leb-true, ltb-true, le_leb, lt-ltb}
+use Rattle.std.proofs.lemmas.Bool.{and_parts, cases_Bool, leb-true, ltb-true, le-leb, lt-ltb}
 use Rattle.timeline.specs.Lists.{every, run}
 use Rattle.rows.specs.Search.{chosen, forward}
 use Rattle.rows.specs.Finding.{row_hi, placed}
@@ -99,11 +99,11 @@ placed_parts n upto k c h =
 
 pub parts_placed : (n upto k : ℕ) (c : Cursor) → Placed n upto k c → placed n upto k c ≡ true
 parts_placed n upto k c p =
-    let a = le_leb 1 k p.some in
-    let b = le_leb k 6 p.few in
-    let d = le_leb upto n p.short in
+    let a = le-leb 1 k p.some in
+    let b = le-leb k 6 p.few in
+    let d = le-leb upto n p.short in
     let e = lt-ltb c.depth k p.deep in
-    let f = le_leb (get_or c.at c.depth 0) upto p.here in
+    let f = le-leb (get_or c.at c.depth 0) upto p.here in
     let g : every (λ j. ltb (get_or c.at j 0) upto) (run 0 c.depth) ≡ true = every_run (λ j. ltb (get_or c.at j 0) upto) c.depth 0 (λ j k l. lt-ltb (get_or c.at j 0) upto (p.before j (omega arith))) in
     rw (a, b, d, e, f, g) refl
 

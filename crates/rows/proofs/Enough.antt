@@ -1,7 +1,7 @@
 -- What needn't be held doesn't matter: rows that end no earlier than a mark are found among what is held under it.
 use Rattle.std.proofs.Common.{◌≡◌, ℕ, ◌+◌, ◌≤◌, Bool, true, false, ◌&&◌, eqb, ltb, leb, List, [], ◌∷◌, ◌++◌, sym, refl, ap, ◌∙◌, arith}
 use Rattle.std.proofs.lemmas.Bool.Decides.{nat_tests}
-use Rattle.std.proofs.lemmas.Bool.{ltb-true, ltb-false, le_leb, lt-leb, eqb-true, eq-eqb, and_parts, and_from}
+use Rattle.std.proofs.lemmas.Bool.{ltb-true, ltb-false, le-leb, lt-leb, eqb-true, eq-eqb, and_parts, and_from}
 use Rattle.timeline.specs.declared.events.Event.{Event}
 use Rattle.timeline.specs.Lists.{or, any, every, those, none_of}
 use Rattle.timeline.specs.Order.{before, sorted, first_of, last_of}
@@ -68,7 +68,7 @@ module _ (p : Pattern) (mark : ℕ) where
         let b : (last_of (es ++ e ∷ [])).time ≡ e.time = ap (λ x. x.time) (last_snoc es e) in
         let c = far in
         let g : eqb s.kind e.kind ≡ true = flip_eqb e.kind s.kind (and_parts (eqb e.kind s.kind) (every (holds es e) s.tests) fits).0 in
-        and_from (leb mark (e.time + p.within)) (named p e) (le_leb mark (e.time + p.within) (omega arith)) (o e (rw g))
+        and_from (leb mark (e.time + p.within)) (named p e) (le-leb mark (e.time + p.within) (omega arith)) (o e (rw g))
 
     holds_bad : none_of es ≡ false → (x : Event) → is_held p mark x ≡ false → bad es e s x ≡ false
     holds_bad n x h = go (bad es e s x) refl
@@ -84,7 +84,7 @@ module _ (p : Pattern) (mark : ℕ) where
             let v : any (λ n. eqb n.kind x.kind) s.never ≡ true =
             any_mono (λ n. fits_step es x n.kind n.tests) (λ n. eqb n.kind x.kind)
             (λ n y. flip_eqb x.kind n.kind (and_parts (eqb x.kind n.kind) (every (holds es x) n.tests) y).0) s.never a.1 in
-            clash (and_from (leb mark (x.time + p.within)) (named p x) (le_leb mark (x.time + p.within) (omega arith))
+            clash (and_from (leb mark (x.time + p.within)) (named p x) (le-leb mark (x.time + p.within) (omega arith))
             (o x (or_right (eqb s.kind x.kind) (any (λ n. eqb n.kind x.kind) s.never) v))) h
 
   held_same : (all : List Event) → those ends_late (rows all p.within p.steps []) ≡ those ends_late (rows (those (is_held p mark) all) p.within p.steps [])

@@ -3,7 +3,7 @@ use Rattle.std.proofs.Common.{◌≡◌, ℕ, ◌<◌, ◌≤◌, Bool, true, fa
 use mathlib.Core.Bool.{false≢true}
 use lib.Dec.{leb-zero}
 use Rattle.std.proofs.lemmas.Bool.Decides.{nat_tests}
-use Rattle.std.proofs.lemmas.Bool.{ltb-false, leb-true, le_leb, lt-ltb, not-true, not-false, and_parts, and_left, and_right, le-ltb}
+use Rattle.std.proofs.lemmas.Bool.{ltb-false, leb-true, le-leb, lt-ltb, not-true, not-false, and_parts, and_left, and_right, le-ltb}
 use Rattle.timeline.specs.declared.events.Event.{Event}
 use Rattle.timeline.specs.Lists.{any, those, none_of}
 use Rattle.timeline.specs.Order.{before, nth, sorted, last_of, each_heard}
@@ -120,7 +120,7 @@ ended_is w s ss es f old new h l g = split ∙ ap₂ ◌++◌ (sym same) (ap (th
         ∙ those_split told_before told_order (λ r. leb (last_of r).time new) was_settled (isort told_before found_now)
         (ord_isort told_before told_order found_now)
         (λ x y q z. settled_down old f (last_of y) (last_of x) (told_last y x q) z)
-        (λ x z. let t = leb-true (last_of x).time old (and_parts (leb (last_of x).time old) (before (last_of x) f) z).0 in le_leb (last_of x).time new (omega arith))
+        (λ x z. let t = leb-true (last_of x).time old (and_parts (leb (last_of x).time old) (before (last_of x) f) z).0 in le-leb (last_of x).time new (omega arith))
 
     ends_settled_all : All (λ r. leb (last_of r).time old ≡ was_settled r) found_before
     ends_settled_all =

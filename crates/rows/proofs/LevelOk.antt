@@ -1,5 +1,5 @@
 -- What a level asks for, read off the array of positions.
-use Rattle.std.proofs.Common.{◌≡◌, ℕ, zero, suc, ◌+◌, ◌-◌, ◌<◌, ◌≤◌, Bool, true, false, ◌&&◌, eqb, List, [], ◌∷◌, length, get_or, take, drop, sym, refl, ap, ◌∙◌, ap₂, add-one, arith, length-drop, length_take, get_or-drop, get_or-take}
+use Rattle.std.proofs.Common.{◌≡◌, ℕ, zero, suc, ◌+◌, ◌-◌, ◌<◌, ◌≤◌, Bool, true, false, ◌&&◌, eqb, List, [], ◌∷◌, length, get_or, take, drop, sym, refl, ap, ◌∙◌, ap₂, add-one, arith, length-drop, length-take, get_or-drop, get_or-take}
 use Rattle.std.proofs.lemmas.Bool.{eq-eqb, ne_eqb}
 use Rattle.timeline.specs.declared.events.Event.{Event}
 use Rattle.timeline.specs.Lists.{pick, each}
@@ -60,7 +60,7 @@ along_stands : (h : List Event) (at : List ℕ) (row : List Event) (d m : ℕ) �
 along_stands h at row d m la lr a l k =
     record {
       inside = λ j q.
-          let b : j < m = omega (arith, length_take m (drop 1 at)) in
+          let b : j < m = omega (arith, length-take m (drop 1 at)) in
           let e : get_or (take m (drop 1 at)) j 0 ≡ get_or at (1 + j) 0 = get_or-take m (drop 1 at) j 0 b ∙ get_or-drop 1 at j 0 in
           rw e (a.inside (1 + j) (omega arith));
       are =
@@ -74,7 +74,7 @@ pub along_ready : (front back at : List ℕ) (row : List Event) (d i m : ℕ) �
     × (Standing (held front back) (take m (drop 1 at)) (take m (drop 1 row)) × (length (take m (drop 1 row)) ≡ length (take m (drop 1 at))))
 along_ready front back at row d i m la lr a q l k = (
   (omega (arith, a.inside i q, length_held front back), a.are i q),
-  (along_stands (held front back) at row d m la lr a l k, omega (arith, length_take m (drop 1 at), length_take m (drop 1 row), length-drop 1 at, length-drop 1 row)),
+  (along_stands (held front back) at row d m la lr a l k, omega (arith, length-take m (drop 1 at), length-take m (drop 1 row), length-drop 1 at, length-drop 1 row)),
 )
 
 -- WHICH POSITIONS: by the depth, for a kept pattern

@@ -1,7 +1,7 @@
 -- What becomes known, from what is held.
 use Rattle.std.proofs.Common.{◌≡◌, ℕ, ◌+◌, ◌-◌, ◌≤◌, Bool, true, not, ◌&&◌, ltb, leb, List, [], ◌∷◌, ◌++◌, length, drop, sym, refl, ap, ◌∙◌, not-suc-le-zero, arith}
 use Rattle.std.proofs.lemmas.Bool.Decides.{nat_tests}
-use Rattle.std.proofs.lemmas.Bool.{ltb-false, le_leb}
+use Rattle.std.proofs.lemmas.Bool.{ltb-false, le-leb}
 use Rattle.timeline.specs.declared.events.Event.{Event}
 use Rattle.timeline.specs.Lists.{those}
 use Rattle.timeline.specs.Order.{sorted, last_of, latest, each_heard}
@@ -86,4 +86,4 @@ never_stale p es f l =
     let t = ltb-false f.time (heard_to p es) l in
     let k = latest_snoc es f in
     let u : latest (es ++ f ∷ []) - p.late ≤ f.time = grind (arith, nat_tests) in
-    le_leb (heard_to p (es ++ f ∷ [])) (f.time + p.within) (omega arith)
+    le-leb (heard_to p (es ++ f ∷ [])) (f.time + p.within) (omega arith)

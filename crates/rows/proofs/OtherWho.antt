@@ -1,5 +1,5 @@
 -- A candidate of another who than a test asks for may not be chosen.
-use Rattle.std.proofs.Common.{◌≡◌, ℕ, ◌+◌, ◌-◌, ◌<◌, Bool, true, false, eqb, ◌≢◌, List, length, get_or, take, drop, set, sym, refl, ap, ◌∙◌, ap₂, arith, length-drop, length_take, get_or-drop, get_or-take}
+use Rattle.std.proofs.Common.{◌≡◌, ℕ, ◌+◌, ◌-◌, ◌<◌, Bool, true, false, eqb, ◌≢◌, List, length, get_or, take, drop, set, sym, refl, ap, ◌∙◌, ap₂, arith, length-drop, length-take, get_or-drop, get_or-take}
 use Rattle.std.proofs.lemmas.List.{get_or-set_same, get_or-set_other, length-set}
 use Rattle.std.proofs.lemmas.Bool.{eqb-false, ne_eqb}
 use Rattle.timeline.specs.declared.events.Event.{Event}
@@ -74,7 +74,7 @@ module _ (front back c at : List ℕ) (row : List Event) (d : ℕ) (la : length 
   module _ (end : d + 1 ≡ kept_count c) (asked : (es : List Event) (e : Event) → eqb e.who (nth es (d - 1)).who ≡ false → fits_step es e (kept_step c d).kind (kept_step c d).tests ≡ false) where
     own_place : nth (each (nth h) (take d (drop 1 at₁))) (d - 1) ≡ nth h i
     own_place =
-        let l : d - 1 < length (take d (drop 1 at₁)) = omega (arith, length_take d (drop 1 at₁), length-drop 1 at₁, length-set at d i, deep) in
+        let l : d - 1 < length (take d (drop 1 at₁)) = omega (arith, length-take d (drop 1 at₁), length-drop 1 at₁, length-set at d i, deep) in
         let q : 1 + (d - 1) ≡ d = omega arith in
         nth_each h (take d (drop 1 at₁)) (d - 1) l ∙ ap (nth h) (get_or-take d (drop 1 at₁) (d - 1) 0 (omega arith) ∙ get_or-drop 1 at₁ (d - 1) 0 ∙ ap (λ n. get_or at₁ n 0) q ∙ here)
 

@@ -1,5 +1,5 @@
 -- Positions of the last but one event from which something forbidden lies before the last event may not be chosen.
-use Rattle.std.proofs.Common.{◌≡◌, ℕ, zero, suc, ◌+◌, ◌-◌, ◌<◌, ◌≤◌, Bool, true, false, eqb, ltb, ◌≢◌, List, [], ◌∷◌, length, get_or, take, drop, set, sym, refl, ap, ◌∙◌, arith, length-drop, length_take, get_or-drop, get_or-take}
+use Rattle.std.proofs.Common.{◌≡◌, ℕ, zero, suc, ◌+◌, ◌-◌, ◌<◌, ◌≤◌, Bool, true, false, eqb, ltb, ◌≢◌, List, [], ◌∷◌, length, get_or, take, drop, set, sym, refl, ap, ◌∙◌, arith, length-drop, length-take, get_or-drop, get_or-take}
 use Rattle.std.proofs.lemmas.List.{get_or-set_same, get_or-set_other, length-set}
 use Rattle.std.proofs.lemmas.Bool.{eqb-true, eqb-false, ltb-true, ltb-false}
 use Rattle.timeline.specs.declared.events.Event.{Event}
@@ -51,7 +51,7 @@ module _ (h : List Event) (c at : List ℕ) (d : ℕ) (la : length at ≡ 6) (fe
       let here : get_or at₁ d 0 ≡ i = get_or-set_same at d i 0 deep in
       let ne : 0 ≢ d = λ q. z (sym q) in
       let top : get_or at₁ 0 0 ≡ get_or at 0 0 = get_or-set_other at d 0 i 0 ne in
-      let long : length ps ≡ d = omega (arith, length_take d (drop 1 at₁), length-drop 1 at₁, length-set at d i) in
+      let long : length ps ≡ d = omega (arith, length-take d (drop 1 at₁), length-drop 1 at₁, length-set at d i) in
       let m : length ps - 1 ≡ d - 1 = omega arith in
       let q : 1 + (d - 1) ≡ d = omega arith in
       let last : get_or ps (length ps - 1) 0 ≡ i =

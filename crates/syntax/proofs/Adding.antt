@@ -1,6 +1,6 @@
 -- What is added to what is read is fine.
 use Rattle.std.proofs.Common.{◌≡◌, ℕ, suc, ◌+◌, Bool, true, false, List, [], ◌∷◌, ◌++◌, length, refl, arith, length-append}
-use Rattle.std.proofs.lemmas.Bool.{and_parts, and_from, lt-ltb, le_leb}
+use Rattle.std.proofs.lemmas.Bool.{and_parts, and_from, lt-ltb, le-leb}
 use Rattle.timeline.specs.Lists.{pick, every}
 use Rattle.patterns.specs.Patterns.{Step}
 use Rattle.patterns.specs.Limits.{a_test, a_step, some_steps}
@@ -32,7 +32,7 @@ fine_never w h f g e =
       names = f.names;
       steps = f.steps;
       steps_few = f.steps_few;
-      nevers = every_push (a_never (length w.steps)) w.nevers (record { kind = h.kind; tests = w.tests }) f.nevers (and_from _ _ (lt-ltb _ _ g.kind) (and_from _ _ (le_leb _ _ f.tests_few) f.tests));
+      nevers = every_push (a_never (length w.steps)) w.nevers (record { kind = h.kind; tests = w.tests }) f.nevers (and_from _ _ (lt-ltb _ _ g.kind) (and_from _ _ (le-leb _ _ f.tests_few) f.tests));
       nevers_few = rw length-append (let k = g.nevers e in omega arith);
       tests = refl;
       tests_few = omega arith;
@@ -46,8 +46,8 @@ fine_step w h f g =
       steps = steps_push 0 w.steps (record { kind = h.kind; tests = w.tests; never = w.nevers }) f.steps (
           let e : 0 + length w.steps ≡ length w.steps = omega arith in
           rw e (
-          and_from _ _ (and_from _ _ (lt-ltb _ _ g.kind) (and_from _ _ (le_leb _ _ f.tests_few) f.tests))
-          (and_from _ _ (le_leb _ _ f.nevers_few) f.nevers)
+          and_from _ _ (and_from _ _ (lt-ltb _ _ g.kind) (and_from _ _ (le-leb _ _ f.tests_few) f.tests))
+          (and_from _ _ (le-leb _ _ f.nevers_few) f.nevers)
           )
           );
       steps_few = rw length-append (let k = g.steps in let e = f.names in omega arith);

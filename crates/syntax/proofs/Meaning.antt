@@ -1,7 +1,7 @@
 -- What a text reads as is a pattern that may be.
 use Rattle.std.proofs.Common.{◌≡◌, ℕ, ◌+◌, ◌≤◌, true, List, [], ◌∷◌, length, take, drop, IfOk, Some, None, Ok, Err, Option, Result, sym, refl, ap, ◌∙◌, arith}
 use Rattle.std.proofs.lemmas.List.{take_at}
-use Rattle.std.proofs.lemmas.Bool.{and_from, lt-ltb, le_leb}
+use Rattle.std.proofs.lemmas.Bool.{and_from, lt-ltb, le-leb}
 use Rattle.patterns.specs.Patterns.{Pattern}
 use Rattle.patterns.specs.Limits.{a_pattern}
 use Rattle.patterns.specs.Numbers.{pattern_in}
@@ -35,7 +35,7 @@ module _ (w : Built) (fine : Fine w) (at : ℕ) (e : Expected) (p : Pattern) whe
       let same : ◌≡◌ {A = Pattern} (record { steps = w.steps; within = t; late = l }) p = cc in
       let some : 1 ≤ length w.steps = omega (arith, fine.names, h.2) in
       rw (← same)
-      (and_from _ _ (and_from _ _ (le_leb _ _ some) (le_leb _ _ fine.steps_few)) (and_from _ _ fine.steps (and_from _ _ (lt-ltb _ _ h.0) (lt-ltb _ _ h.1))))
+      (and_from _ _ (and_from _ _ (le-leb _ _ some) (le-leb _ _ fine.steps_few)) (and_from _ _ fine.steps (and_from _ _ (lt-ltb _ _ h.0) (lt-ltb _ _ h.1))))
   end_fine (Rest x i q) h k = no_pattern at e p k
   end_fine (Digits n v) h k = no_pattern at e p k
 

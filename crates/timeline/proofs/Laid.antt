@@ -2,7 +2,7 @@
 use Rattle.std.proofs.Common.{◌≡◌, ℕ, zero, suc, ◌+◌, ◌-◌, ◌*◌, ◌%◌, ◌<◌, ◌≤◌, Bool, true, ◌&&◌, ltb, List, [], ◌∷◌, length, get_or, drop, set, replicate, sym, refl, ap, ◌∙◌, ⊎_elim, add-zero, arith}
 use Rattle.std.proofs.lemmas.Bool.{cases_lt, and_parts, and_from}
 use Rattle.std.proofs.lemmas.List.{same_lists, length-drop, length-replicate, get_or-drop, get_or-replicate, get_or_default}
-use Rattle.std.proofs.lemmas.List.FromFn.{length-map-range_with_len, get_or_map_range_with_len}
+use Rattle.std.proofs.lemmas.List.FromFn.{length-map-range_with_len, get_or-map-range_with_len}
 use Rattle.timeline.specs.declared.events.Event.{Event}
 use Rattle.timeline.specs.Lists.{every}
 use Rattle.timeline.specs.Order.{nothing}
@@ -63,7 +63,7 @@ events_of_laid ring s es long h =
     let n : length (events (laid ring s es) s (length es)) ≡ length es = length-map-range_with_len (slot (laid ring s es)) s (length es) in
     same_lists (events (laid ring s es) s (length es)) es n
     (λ k d l.
-    get_or_map_range_with_len (slot (laid ring s es)) s (length es) k (s + k) d (omega arith) refl
+    get_or-map-range_with_len (slot (laid ring s es)) s (length es) k (s + k) d (omega arith) refl
     ∙ laid_inside ring s es k long (omega arith) h
     ∙ get_or_default es k nothing d (omega arith))
 
