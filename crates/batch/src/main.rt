@@ -1,4 +1,6 @@
 // batch [-t | -e] PATTERN EVENTS: all rows of a pattern among the events that count, found by looking through everything.
+#![tactic(auto)]
+
 use files::{Failed, PatternSource, line, read_file};
 use rows::{FindError, find_counted};
 use std::env;

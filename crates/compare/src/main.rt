@@ -1,5 +1,7 @@
 // compare SEED COUNT [CASE]: the listener beside two other ways to know what it has to tell, on random patterns and events: so many cases,
 // from a case on or from the first.
+#![tactic(auto)]
+
 mod comparing;
 mod difference;
 mod growing;

@@ -1,4 +1,6 @@
 // Patterns and events in files: numbers of eight bytes, the low byte first.
+#![tactic(auto)]
+
 mod asking;
 mod bytes;
 mod complaining;

@@ -1,5 +1,7 @@
 // hostile SEED COUNT: calls the listener so many times with garbage, in turn and out of turn, and holds its answer and its memory to a
 // second account of them.
+#![tactic(auto)]
+
 mod calls;
 mod expecting;
 mod harming;

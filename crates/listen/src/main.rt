@@ -1,4 +1,6 @@
 // listen [-t | -e] PATTERN EVENTS: tells each row that fits as soon as nothing that may still come could change it.
+#![tactic(auto)]
+
 mod listening;
 mod source;
 

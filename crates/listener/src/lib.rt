@@ -1,4 +1,6 @@
 // The listener: one step of a machine on a lent memory.
+#![tactic(auto)]
+
 mod acts;
 mod entry;
 mod head;

@@ -1,4 +1,6 @@
 // Patterns as numbers: read, checked and kept in a fixed layout; tests and nevers tried.
+#![tactic(auto)]
+
 mod asked;
 mod comparing;
 mod fields;

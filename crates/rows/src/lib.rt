@@ -1,4 +1,6 @@
 // Rows of events that fit a pattern: what they are, and how they are found.
+#![tactic(auto)]
+
 mod extension;
 mod finder;
 #[cfg(test)]

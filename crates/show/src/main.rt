@@ -1,4 +1,6 @@
 // show [-t | -e] PATTERN: a pattern as text, with names of its own.
+#![tactic(auto)]
+
 #[cfg(test)]
 mod tests;
 

@@ -1,4 +1,6 @@
 // Patterns as they are typed: read, with the byte at which a text is wrong and what could have stood there, and written.
+#![tactic(auto)]
+
 mod cells;
 mod drafts;
 mod drawing;

@@ -1,4 +1,6 @@
 // Events in the order of time.
+#![tactic(auto)]
+
 mod events;
 mod laws;
 mod places;
