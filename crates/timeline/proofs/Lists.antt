@@ -1,6 +1,6 @@
 -- Lists: what holds of each element and of each pair, filters, flattened lists.
 use Rattle.std.proofs.Common.{◌≡◌, ℕ, zero, suc, ◌<◌, Bool, true, false, ◌&&◌, List, [], ◌∷◌, ◌++◌, length, get_or, drop, sym, refl, ap, ◌∙◌, true≢false, not-suc-le-zero, arith}
-use Rattle.timeline.specs.Lists.{pick, or, every, any, those, flat}
+use Rattle.timeline.specs.Lists.{pick, every, any, those, flat}
 
 -- a test that both holds and fails
 pub clash : {X : Type 0} {b : Bool} → b ≡ true → b ≡ false → X

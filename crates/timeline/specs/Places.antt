@@ -1,6 +1,6 @@
 -- Where a time belongs in a rising row of times, and the smaller of two counts.
 -- Assumes nothing: these are definitions.
-use Rattle.std.specs.Prelude.{ℕ, ◌+◌, Bool, true, false, ◌&&◌, List, [], ◌∷◌, nat_le, nat_lt}
+use Rattle.std.specs.Prelude.{ℕ, ◌+◌, Bool, true, ◌&&◌, List, [], ◌∷◌, nat_le, nat_lt}
 use Rattle.timeline.specs.Lists.{pick}
 use Rattle.timeline.specs.declared.places.Reply.{Reply}
 use Rattle.timeline.specs.declared.places.Reply.TheVariants.{Place, Refused}

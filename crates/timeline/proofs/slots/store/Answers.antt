@@ -9,7 +9,7 @@ returns c =
     let s = c.args.start in
     let i = c.args.i in
     let e = c.args.e in
-    let where-it-is = c.slot-behind-n.ensures in
+    let where-it-is = c.slot_behind-n.ensures in
     record {
       here = ap (λ (t : ℕ). slot (with_event ring (t * 5) e) (s + i)) where-it-is ∙ slot_same ring (s + i) e (omega arith);
       others =
