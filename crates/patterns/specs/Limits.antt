@@ -3,7 +3,7 @@
 use Rattle.std.specs.Prelude.{ℕ, suc, Bool, true, ◌&&◌, ltb, List, [], ◌∷◌, length, ◌==◌, nat_le, nat_lt}
 use Rattle.timeline.specs.declared.events.Event.{Event}
 use Rattle.timeline.specs.Lists.{pick, every, none_of}
-use Rattle.patterns.specs.Patterns.{Test, Never, Step, Pattern}
+use Rattle.patterns.specs.Patterns.{Test, Step, Pattern}
 
 -- a test of step n: three fields, three signs, and a number below 2^62 or a field of an earlier step
 abbrev pub a_test : ℕ → Test → Bool

@@ -6,13 +6,13 @@ use Rattle.files.proofs.bytes.numbers.Goals as goal
 
 pub loop-eight-preserved : goal.loop-eight-preserved
 loop-eight-preserved c =
-    c.in-ok-push.ensures.items
+    c.in_ok-push.ensures.items
     ∙ ap₂ (λ ns n. ns ++ n ∷ []) c.loop-eight.invariant c.number.ensures
-    ∙ sym (map_more number_in c.as-chunks.result.0.now c.loop-eight.eight-index [] c.loop-eight-test.true)
+    ∙ sym (map_more number_in c.as_chunks.result.0.now c.loop-eight.eight-index [] c.loop-eight-test.true)
 
 pub returns : goal.returns
 returns c = (
-  sym c.as-chunks.ensures.back_len ∙ eqb-true (length c.as-chunks.result.1.now) 0 (sym c.if-not-is-empty.ensures),
+  sym c.as_chunks.ensures.back_len ∙ eqb-true (length c.as_chunks.result.1.now) 0 (sym c.if-not-is_empty.ensures),
   c.loop-eight.invariant
-      ∙ ap (map number_in) (take_all c.loop-eight.eight-index c.as-chunks.result.0.now c.loop-eight-test.false ∙ c.as-chunks.ensures.front),
+      ∙ ap (map number_in) (take_all c.loop-eight.eight-index c.as_chunks.result.0.now c.loop-eight-test.false ∙ c.as_chunks.ensures.front),
 )

@@ -15,9 +15,9 @@ returns c =
     let feed = codes "\n" in
     let under = map under_byte front in
     let mark = codes "^\n" in
-    c.in-ok-extend-from-slice-2.ensures.items
-    ∙ ap (λ xs. xs ++ mark) c.in-ok-put-under.ensures
-    ∙ ap (λ xs. (xs ++ under) ++ mark) c.in-ok-extend-from-slice.ensures.items
-    ∙ ap (λ xs. ((xs ++ feed) ++ under) ++ mark) c.in-ok-put-shown-2.ensures
-    ∙ ap (λ xs. (((xs ++ map shown_byte back) ++ feed) ++ under) ++ mark) c.in-ok-put-shown.ensures
+    c.in_ok-extend_from_slice-2.ensures.items
+    ∙ ap (λ xs. xs ++ mark) c.in_ok-put_under.ensures
+    ∙ ap (λ xs. (xs ++ under) ++ mark) c.in_ok-extend_from_slice.ensures.items
+    ∙ ap (λ xs. ((xs ++ feed) ++ under) ++ mark) c.in_ok-put_shown-2.ensures
+    ∙ ap (λ xs. (((xs ++ map shown_byte back) ++ feed) ++ under) ++ mark) c.in_ok-put_shown.ensures
     ∙ five (vec_items c.args.said.now) (map shown_byte front) (map shown_byte back) feed under mark

@@ -8,7 +8,7 @@ loop-byte-preserved c =
     let bytes = c.args.bytes.now in
     let i = c.loop-byte.byte-index in
     let before = vec_items c.args.said.now in
-    c.in-ok-push.ensures.items
+    c.in_ok-push.ensures.items
     ∙ ap₂ (λ xs x. xs ++ x ∷ []) c.loop-byte.invariant c.shown_byte.ensures
     ∙ append_assoc before (map shown_byte (take i bytes)) (shown_byte (get_or bytes i 0) ∷ [])
     ∙ ap (λ xs. before ++ xs) (sym (map_more shown_byte bytes i 0 c.loop-byte-test.true))

@@ -10,14 +10,14 @@ bounds-bytes-n c = omega (arith, c.loop-n.invariant.1, c.loop-n-test.true)
 
 pub loop-n-preserved : goal.loop-n-preserved
 loop-n-preserved c = (
-  sym (white_next c.args.bytes.now c.loop-n.n c.loop-n-test.true (sym c.if-is-white.ensures)) ∙ c.loop-n.invariant.0,
+  sym (white_next c.args.bytes.now c.loop-n.n c.loop-n-test.true (sym c.if-is_white.ensures)) ∙ c.loop-n.invariant.0,
   omega (arith, c.loop-n.invariant.1),
 )
 
-pub returns-else-is-white : goal.returns-else-is-white
-returns-else-is-white c =
+pub returns-else-is_white : goal.returns-else-is_white
+returns-else-is_white c =
     record {
-      value = sym (white_stop c.args.bytes.now c.loop-n.n c.loop-n-test.true (sym c.if-is-white.ensures)) ∙ c.loop-n.invariant.0;
+      value = sym (white_stop c.args.bytes.now c.loop-n.n c.loop-n-test.true (sym c.if-is_white.ensures)) ∙ c.loop-n.invariant.0;
       bound = c.loop-n.invariant.1;
     }
 

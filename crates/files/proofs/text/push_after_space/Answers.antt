@@ -4,5 +4,5 @@ use Rattle.files.proofs.text.push_after_space.Goals as goal
 pub returns : goal.returns
 returns c =
     λ ok.
-    c.push-number.ensures ok ∙ ap (λ t. t ++ decimal c.args.n) c.in-ok-extend-from-slice.ensures.items
+    c.push_number.ensures ok ∙ ap (λ t. t ++ decimal c.args.n) c.in_ok-extend_from_slice.ensures.items
     ∙ append_assoc (vec_items c.args.text.now) (32 ∷ []) (decimal c.args.n)

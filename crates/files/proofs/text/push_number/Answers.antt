@@ -8,5 +8,5 @@ returns c =
     let bytes = c.digits-at.new.bytes in
     let long : length bytes ≡ 20 = search rules in
     λ _.
-    c.in-ok-extend-from-slice.ensures.items
+    c.in_ok-extend_from_slice.ensures.items
     ∙ ap (λ ds. vec_items c.args.text.now ++ ds) (take_all (20 - at) (drop at bytes) (omega (arith, length-drop at bytes)) ∙ c.digits-at.ensures.value)

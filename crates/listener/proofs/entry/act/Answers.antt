@@ -11,5 +11,5 @@ returns-in-1 c = told_event c.args.memory.now c.args.row.now c.args.kind _ _ _ _
 pub returns-in-2 : goal.returns-in-2
 returns-in-2 c = told_end c.args.memory.now c.args.row.now c.args.kind _ _ _ _ c.in-2.is c.finish.ensures
 
-pub returns-in-default : goal.returns-in-default
-returns-in-default c = told_next c.args.memory.now c.args.row.now c.args.kind _ _ _ _ (λ e. omega arith) (λ e. omega arith) (λ e. omega arith) c.go-on.ensures
+pub returns-in_default : goal.returns-in_default
+returns-in_default c = told_next c.args.memory.now c.args.row.now c.args.kind _ _ _ _ (λ e. omega arith) (λ e. omega arith) (λ e. omega arith) c.go_on.ensures

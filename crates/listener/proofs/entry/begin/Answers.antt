@@ -6,14 +6,14 @@ use Rattle.listener.specs.Machine.{memory_of, blank}
 use Rattle.listener.proofs.Saying.{begun_out, begun_none, begun_some, cells_given, cells_new, ring_as_was, not_kept, cells_length}
 use Rattle.listener.proofs.entry.begin.Goals as goal
 
-pub returns-in-default : goal.returns-in-default
-returns-in-default c = begun_out c.args.memory.now c.args.out.now (pattern_in c.args.row.now) c.in-default.ensures.value
+pub returns-in_default : goal.returns-in_default
+returns-in_default c = begun_out c.args.memory.now c.args.out.now (pattern_in c.args.row.now) c.in_default.ensures.value
 
-pub returns-in-default-keep : goal.returns-in-default-keep
-returns-in-default-keep c =
+pub returns-in_default-keep : goal.returns-in_default-keep
+returns-in_default-keep c =
     let m = c.args.memory.now in
     let row = c.args.row.now in
-    let bad = not_kept c.in-default-keep.field-0 row (take 405 (drop 14 m)) c.keep.new.kept (cells_length m c.requires) c.in-default-keep.ensures in
+    let bad = not_kept c.in_default-keep.field-0 row (take 405 (drop 14 m)) c.keep.new.kept (cells_length m c.requires) c.in_default-keep.ensures in
     begun_none m c.args.out.now (pattern_in row) c.in-Some.field-0 _ c.in-Some.ensures.value bad.0 (cells_given 14 405 m c.keep.new.kept (omega (arith, c.requires)) bad.1)
 
 pub returns : goal.returns

@@ -6,8 +6,8 @@ use Rattle.listener.specs.Entry.{Did}
 use Rattle.listener.proofs.Saying.{ended_out, ended_told}
 use Rattle.listener.proofs.entry.finish.Goals as goal
 
-pub returns-in-default : goal.returns-in-default
-returns-in-default c = ended_out c.args.memory.now c.args.out.now c.in-default.ensures.value
+pub returns-in_default : goal.returns-in_default
+returns-in_default c = ended_out c.args.memory.now c.args.out.now c.in_default.ensures.value
 
 pub returns : goal.returns
 returns c =

@@ -11,14 +11,14 @@ returns-in-Some c =
     let m = c.args.memory.now in
     let h = c.in-Some.head in
     gone_telling m c.args.out.now h _ _ _ c.in-Some.ensures.value
-    (subst (λ (x : Cursor). Did (tell_from Telling h (cells_of m) (ring_of m) x) c.tell.result c.tell.new.memory c.args.out.now c.tell.new.out) c.cursor-of-cursor.ensures c.tell.ensures)
+    (subst (λ (x : Cursor). Did (tell_from Telling h (cells_of m) (ring_of m) x) c.tell.result c.tell.new.memory c.args.out.now c.tell.new.out) c.cursor_of-cursor.ensures c.tell.ensures)
 
-pub returns-in-default-in-phase : goal.returns-in-default-in-phase
-returns-in-default-in-phase c = gone_out c.args.memory.now c.args.out.now c.in-default.ensures.value c.in-default-in-phase.ensures.value
+pub returns-in_default-in_phase : goal.returns-in_default-in_phase
+returns-in_default-in_phase c = gone_out c.args.memory.now c.args.out.now c.in_default.ensures.value c.in_default-in_phase.ensures.value
 
 pub returns : goal.returns
 returns c =
     let m = c.args.memory.now in
-    let h = c.in-Some-in-phase.head in
-    gone_ending m c.args.out.now h _ _ _ c.in-default.ensures.value c.in-Some-in-phase.ensures.value
-    (subst (λ (x : Cursor). Did (tell_from Ending h (cells_of m) (ring_of m) x) c.tell-2.result c.tell-2.new.memory c.args.out.now c.tell-2.new.out) c.cursor-of-cursor-2.ensures c.tell-2.ensures)
+    let h = c.in-Some-in_phase.head in
+    gone_ending m c.args.out.now h _ _ _ c.in_default.ensures.value c.in-Some-in_phase.ensures.value
+    (subst (λ (x : Cursor). Did (tell_from Ending h (cells_of m) (ring_of m) x) c.tell-2.result c.tell-2.new.memory c.args.out.now c.tell-2.new.out) c.cursor_of-cursor-2.ensures c.tell-2.ensures)

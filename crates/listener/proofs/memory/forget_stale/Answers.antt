@@ -8,14 +8,14 @@ pub returns : goal.returns
 returns c =
     let m = c.args.memory.now in
     let k = c.args.head.stale in
-    let span = c.span-of.ensures in
+    let span = c.span_of.ensures in
     let done = c.in-Some.ensures.cases in
     record {
       after =
           ring_given m c.forget.new.ring c.requires.0
           ∙ ap (λ (r : List ℕ). take 419 m ++ r)
           (done.after
-          ∙ ap (λ (r : List ℕ). with_forgotten r c.span-of.result.start k) (ring_lent m c.requires.0)
+          ∙ ap (λ (r : List ℕ). with_forgotten r c.span_of.result.start k) (ring_lent m c.requires.0)
           ∙ ap (λ (s : ℕ). with_forgotten (ring_of m) s k) span.0);
       value = (done.start ∙ ap (λ (s : ℕ). (s + k) % capacity) span.0, done.len ∙ ap (λ (l : ℕ). l - k) span.1);
     }

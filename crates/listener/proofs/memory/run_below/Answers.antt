@@ -21,7 +21,7 @@ lent_at m s i e l h = h ∙ ap (λ (r : List ℕ). nth (held_in r s) i) (ring_le
 pub loop-e-preserved : goal.loop-e-preserved
 loop-e-preserved c =
     let m = c.args.memory.now in
-    let s = c.span-of-span.result in
+    let s = c.span_of-span.result in
     let i = c.loop-e.i in
     let inv = c.loop-e.invariant in
     let found = c.in-Some.ensures in
@@ -40,7 +40,7 @@ ended m s st len from i b (p, q) e z =
 pub returns-then-e-bound : goal.returns-then-e-bound
 returns-then-e-bound c =
     let m = c.args.memory.now in
-    let s = c.span-of-span.result in
+    let s = c.span_of-span.result in
     let i = c.loop-e.i in
     let inv = c.loop-e.invariant in
     let found = c.in-Some.ensures in
@@ -48,21 +48,21 @@ returns-then-e-bound c =
     let is = lent_at m s i c.in-Some.e c.requires.0 found.cases in
     let t : c.args.bound ≤ (nth (held_in (ring_of m) s) i).time = subst (λ (x : Event). c.args.bound ≤ x.time) is c.if-e-bound.true in
     record {
-      value = ended m s c.args.head.start c.args.head.len c.args.from i c.args.bound c.span-of-span.ensures inv.2 (run_stops c.args.bound i (held_in (ring_of m) s) (omega (arith, long m s)) t);
-      bound = (inv.0, omega (arith, c.span-of-span.ensures.1));
+      value = ended m s c.args.head.start c.args.head.len c.args.from i c.args.bound c.span_of-span.ensures inv.2 (run_stops c.args.bound i (held_in (ring_of m) s) (omega (arith, long m s)) t);
+      bound = (inv.0, omega (arith, c.span_of-span.ensures.1));
     }
 
 behind : (l r i n : ℕ) → l ≡ r → false ≡ (eqb l r && ltb i n) → n ≤ i
 behind l r i n e h = grind (arith, nat_tests)
 
-pub returns-in-default : goal.returns-in-default
-returns-in-default c =
+pub returns-in_default : goal.returns-in_default
+returns-in_default c =
     let m = c.args.memory.now in
-    let s = c.span-of-span.result in
+    let s = c.span_of-span.result in
     let i = c.loop-e.i in
     let inv = c.loop-e.invariant in
-    let past : s.len ≤ i = behind (length (take ring_long (drop 419 m))) ring_long i s.len (lent_length m c.requires.0) c.in-default.ensures.test in
+    let past : s.len ≤ i = behind (length (take ring_long (drop 419 m))) ring_long i s.len (lent_length m c.requires.0) c.in_default.ensures.test in
     record {
-      value = ended m s c.args.head.start c.args.head.len c.args.from i c.args.bound c.span-of-span.ensures inv.2 (run_ends c.args.bound i (held_in (ring_of m) s) (omega (arith, long m s)));
-      bound = (inv.0, omega (arith, c.span-of-span.ensures.1));
+      value = ended m s c.args.head.start c.args.head.len c.args.from i c.args.bound c.span_of-span.ensures inv.2 (run_ends c.args.bound i (held_in (ring_of m) s) (omega (arith, long m s)));
+      bound = (inv.0, omega (arith, c.span_of-span.ensures.1));
     }

@@ -38,14 +38,14 @@ ready_from h e latest run b t is l =
     both : (x y : ℕ) → x < 4611686018427387904 → y < 4611686018427387904 → pick (ltb x y) y x < 4611686018427387904
     both x y p q = grind (arith, nat_tests)
 
-pub returns-then-e-saturating-sub : goal.returns-then-e-saturating-sub
-returns-then-e-saturating-sub c =
+pub returns-then-e-saturating_sub : goal.returns-then-e-saturating_sub
+returns-then-e-saturating_sub c =
     let m = c.args.memory.now in
     let h = c.args.head in
-    let is-late = c.late-late.ensures ∙ ap (λ (w : List ℕ). (kept_pattern w).late) c.pattern-in-pattern.ensures in
+    let is-late = c.late-late.ensures ∙ ap (λ (w : List ℕ). (kept_pattern w).late) c.pattern_in-pattern.ensures in
     record {
       bound = tt;
-      value = hears_late (kept_pattern (cells_of m)) h (events (ring_of m) h.start h.len) c.args.e (omega (arith, is-late, c.saturating-sub.ensures, c.if-e-saturating-sub.true));
+      value = hears_late (kept_pattern (cells_of m)) h (events (ring_of m) h.start h.len) c.args.e (omega (arith, is-late, c.saturating_sub.ensures, c.if-e-saturating_sub.true));
     }
 
 pub returns-then-stays-gt-ROOM : goal.returns-then-stays-gt-ROOM
@@ -55,16 +55,16 @@ returns-then-stays-gt-ROOM c =
     let e = c.args.e in
     let p = kept_pattern (cells_of m) in
     let es = events (ring_of m) h.start h.len in
-    let words = c.pattern-in-pattern.ensures in
+    let words = c.pattern_in-pattern.ensures in
     let is-late = c.late-late.ensures ∙ ap (λ (w : List ℕ). (kept_pattern w).late) words in
     let is_Within = c.within.ensures ∙ ap (λ (w : List ℕ). (kept_pattern w).within) words in
-    let is-named = c.is-named-named.ensures ∙ ap (λ (w : List ℕ). named (kept_pattern w) e) words in
-    let stale = stale_from p h es e c.latest-with-latest.result c.late-late.result c.saturating-sub-2.result c.within.result c.saturating-sub-oldest.result c.run-below-stale.result
-    c.latest-with-latest.ensures is-late c.saturating-sub-2.ensures is_Within c.saturating-sub-oldest.ensures c.run-below-stale.ensures.value in
-    let full = room_from p h es e c.run-below-stale.result c.stays.result c.is-named-named.result stale is-named c.stays.ensures in
+    let is-named = c.is_named-named.ensures ∙ ap (λ (w : List ℕ). named (kept_pattern w) e) words in
+    let stale = stale_from p h es e c.latest_with-latest.result c.late-late.result c.saturating_sub-2.result c.within.result c.saturating_sub-oldest.result c.run_below-stale.result
+    c.latest_with-latest.ensures is-late c.saturating_sub-2.ensures is_Within c.saturating_sub-oldest.ensures c.run_below-stale.ensures.value in
+    let full = room_from p h es e c.run_below-stale.result c.stays.result c.is_named-named.result stale is-named c.stays.ensures in
     record {
       bound = tt;
-      value = hears_full p h es e (omega (arith, is-late, c.saturating-sub.ensures, c.if-e-saturating-sub.false)) (omega (arith, full, c.if-stays-gt-ROOM.true));
+      value = hears_full p h es e (omega (arith, is-late, c.saturating_sub.ensures, c.if-e-saturating_sub.false)) (omega (arith, full, c.if-stays-gt-ROOM.true));
     }
 
 pub returns : goal.returns
@@ -74,15 +74,15 @@ returns c =
     let e = c.args.e in
     let p = kept_pattern (cells_of m) in
     let es = events (ring_of m) h.start h.len in
-    let words = c.pattern-in-pattern.ensures in
+    let words = c.pattern_in-pattern.ensures in
     let is-late = c.late-late.ensures ∙ ap (λ (w : List ℕ). (kept_pattern w).late) words in
     let is_Within = c.within.ensures ∙ ap (λ (w : List ℕ). (kept_pattern w).within) words in
-    let is-named = c.is-named-named.ensures ∙ ap (λ (w : List ℕ). named (kept_pattern w) e) words in
-    let stale = stale_from p h es e c.latest-with-latest.result c.late-late.result c.saturating-sub-2.result c.within.result c.saturating-sub-oldest.result c.run-below-stale.result
-    c.latest-with-latest.ensures is-late c.saturating-sub-2.ensures is_Within c.saturating-sub-oldest.ensures c.run-below-stale.ensures.value in
-    let fits = room_from p h es e c.run-below-stale.result c.stays.result c.is-named-named.result stale is-named c.stays.ensures in
+    let is-named = c.is_named-named.ensures ∙ ap (λ (w : List ℕ). named (kept_pattern w) e) words in
+    let stale = stale_from p h es e c.latest_with-latest.result c.late-late.result c.saturating_sub-2.result c.within.result c.saturating_sub-oldest.result c.run_below-stale.result
+    c.latest_with-latest.ensures is-late c.saturating_sub-2.ensures is_Within c.saturating_sub-oldest.ensures c.run_below-stale.ensures.value in
+    let fits = room_from p h es e c.run_below-stale.result c.stays.result c.is_named-named.result stale is-named c.stays.ensures in
     record {
-      bound = ready_from c.args.head c.args.e c.latest-with-latest.result c.run-below-stale.result c.requires.1.0 c.requires.1.1 c.latest-with-latest.ensures c.run-below-stale.ensures.bound.1;
-      value = counts_from p h es e c.latest-with-latest.result c.run-below-stale.result c.is-named-named.result c.latest-with-latest.ensures stale is-named
-          ∙ hears_counts p h es e (omega (arith, is-late, c.saturating-sub.ensures, c.if-e-saturating-sub.false)) (omega (arith, fits, c.if-stays-gt-ROOM.false));
+      bound = ready_from c.args.head c.args.e c.latest_with-latest.result c.run_below-stale.result c.requires.1.0 c.requires.1.1 c.latest_with-latest.ensures c.run_below-stale.ensures.bound.1;
+      value = counts_from p h es e c.latest_with-latest.result c.run_below-stale.result c.is_named-named.result c.latest_with-latest.ensures stale is-named
+          ∙ hears_counts p h es e (omega (arith, is-late, c.saturating_sub.ensures, c.if-e-saturating_sub.false)) (omega (arith, fits, c.if-stays-gt-ROOM.false));
     }

@@ -12,9 +12,9 @@ pub returns : goal.returns
 returns c =
     let m = c.args.memory.now in
     let h = c.args.head in
-    let s = c.span-of.result in
+    let s = c.span_of.result in
     let words = c.pattern_in.ensures in
     let list = c.in-Some.ensures.cases.list in
-    let here = ap (λ (r : List ℕ). held_in r s) (ring_lent m c.requires.0) ∙ ap₂ (λ (x y : ℕ). events (ring_of m) x y) c.span-of.ensures.0 c.span-of.ensures.1 in
-    c.next-row.ensures
+    let here = ap (λ (r : List ℕ). held_in r s) (ring_lent m c.requires.0) ∙ ap₂ (λ (x y : ℕ). events (ring_of m) x y) c.span_of.ensures.0 c.span_of.ensures.1 in
+    c.next_row.ensures
     ∙ ap₂ (λ (es : List Event) (w : List ℕ). next_found es (kept_pattern w) h.upto c.args.cursor) (list ∙ here) words

@@ -9,6 +9,6 @@ use Rattle.patterns.proofs.keeping.keep.Goals as goal
 pub returns : goal.returns
 returns c =
     let p = pattern_in c.args.row.now in
-    let h = c.if-not-lay-pattern.ensures in
-    let whole = c.copy-from-slice.ensures.after ∙ h.1 ∙ sets_all (replicate 405 0) (pattern_cells p) (pattern_cells_long p) in
-    (c.if-kept-ne-PATTERN-WORDS.false, h.0, whole, ap kept_pattern whole ∙ reads_back p h.0)
+    let h = c.if-not-lay_pattern.ensures in
+    let whole = c.copy_from_slice.ensures.after ∙ h.1 ∙ sets_all (replicate 405 0) (pattern_cells p) (pattern_cells_long p) in
+    (c.if-kept-ne-PATTERN_WORDS.false, h.0, whole, ap kept_pattern whole ∙ reads_back p h.0)

@@ -5,19 +5,19 @@ use Rattle.patterns.specs.Reading.{nevers_at, nevers_end, some_nevers}
 use Rattle.patterns.proofs.Wholes.{laid_as, step_no_tests, step_may, step_whole}
 use Rattle.patterns.proofs.reading.lay_step.Goals as goal
 
-pub returns-in-default : goal.returns-in-default
-returns-in-default c =
-    step_no_tests c.args.row.now c.args.words.now c.args.before c.args.to c.args.pos c.number-kind.result c.number-kind.ensures c.in-default.ensures
+pub returns-in_default : goal.returns-in_default
+returns-in_default c =
+    step_no_tests c.args.row.now c.args.words.now c.args.before c.args.to c.args.pos c.number-kind.result c.number-kind.ensures c.in_default.ensures
 
 pub returns : goal.returns
 returns c =
     let row = c.args.row.now in
     let h = c.in-Some.ensures in
-    laid_as c.lay-nevers.new.words c.lay-nevers.result
+    laid_as c.lay_nevers.new.words c.lay_nevers.result
     (ap (λ q. some_nevers c.args.before (nevers_at row q)) h.1
     ∙ step_may row c.args.words.now c.args.before c.args.to c.args.pos c.number-kind.result c.number-kind.ensures c.if-kind-ge-KINDS.false h.0)
     (ap (nevers_end row) h.1)
     (omega (arith, h.2))
     (ap₂ (λ w q. sets w (c.args.to + 22) (nevers_cells (nevers_at row q))) h.3 h.1
     ∙ step_whole row c.args.words.now c.args.before c.args.to c.args.pos c.number-kind.result c.number-kind.ensures)
-    c.lay-nevers.ensures
+    c.lay_nevers.ensures

@@ -1,4 +1,4 @@
-use Rattle.std.proofs.Common.{◌≡◌, ◌+◌, ◌-◌, ◌*◌, true, false, length, drop, sym, refl, ap, ◌∙◌, arith}
+use Rattle.std.proofs.Common.{◌≡◌, ◌+◌, ◌*◌, true, false, length, drop, sym, refl, ap, ◌∙◌, arith}
 use lib.Seq.{sets}
 use Rattle.patterns.specs.Limits.{a_test}
 use Rattle.patterns.specs.Numbers.{tests_in}
@@ -13,12 +13,12 @@ pub returns-then-count : goal.returns-then-count
 returns-then-count c =
     simp (sym c.number-count.ensures) (too_many (a_test c.args.before) 4 c.number-count.result (tests_in c.number-count.result (drop (c.args.pos + 1) c.args.row.now)) (length_tests _ _) c.if-count.true)
 
-pub returns-then-not-may-be : goal.returns-then-not-may-be
-returns-then-not-may-be c =
+pub returns-then-not-may_be : goal.returns-then-not-may_be
+returns-then-not-may_be c =
     let k = c.number-count.result in
     let f = a_test c.args.before in
     let t = kept_test c.args.row.now (c.args.pos + 1 + 5 * c.loop-i.i) in
-    let no : f t ≡ false = sym (c.if-not-may-be.ensures ∙ ap (a_comparison c.args.before) c.read-test.ensures ∙ comparison_may c.args.before t) in
+    let no : f t ≡ false = sym (c.if-not-may_be.ensures ∙ ap (a_comparison c.args.before) c.read-test.ensures ∙ comparison_may c.args.before t) in
     let bad = sym c.loop-i.invariant.0 ∙ every_fail f t _ _ (tests_more c.args.row.now k c.loop-i.i (c.args.pos + 1) c.loop-i-test.true) no in
     simp (sym c.number-count.ensures) (not_every f 4 k (tests_in k (drop (c.args.pos + 1) c.args.row.now)) (length_tests _ _) bad)
 
@@ -27,7 +27,7 @@ loop-i-preserved c =
     let f = a_test c.args.before in
     let t = kept_test c.args.row.now (c.args.pos + 1 + 5 * c.loop-i.i) in
     let more = tests_more c.args.row.now c.number-count.result c.loop-i.i (c.args.pos + 1) c.loop-i-test.true in
-    let yes : f t ≡ true = sym (c.if-not-may-be.ensures ∙ ap (a_comparison c.args.before) c.read-test.ensures ∙ comparison_may c.args.before t) in
+    let yes : f t ≡ true = sym (c.if-not-may_be.ensures ∙ ap (a_comparison c.args.before) c.read-test.ensures ∙ comparison_may c.args.before t) in
     let laid : c.lay.new.words ≡ sets c.loop-i.words (c.args.to + 1 + 5 * c.loop-i.i) (test_cells t) =
     c.lay.ensures ∙ ap (λ p. sets c.loop-i.words (c.args.to + 1 + 5 * c.loop-i.i) (comparison_cells p)) c.read-test.ensures
     ∙ ap (sets c.loop-i.words (c.args.to + 1 + 5 * c.loop-i.i)) (comparison_words t) in
@@ -41,5 +41,5 @@ returns c =
     let xs = tests_in k (drop (c.args.pos + 1) c.args.row.now) in
     let ends = no_tests k c.loop-i.i (drop (c.args.pos + 1 + 5 * c.loop-i.i) c.args.row.now) c.loop-i-test.false in
     let all = sym c.loop-i.invariant.0 ∙ every_done f _ ends in
-    let put = lay_rest 5 4 test_cells (c.args.to + 1) c.loop-i.i k _ _ _ _ xs (omega arith) ends c.lay-zeros.ensures c.loop-i.invariant.1 in
-    simp (sym c.number-count.ensures) (few_enough f 4 k xs (length_tests _ _) c.if-count.false all, refl, omega arith, counted c.args.words.now c.lay-zeros.new.words c.args.to (length xs) k (padded 5 test_cells 4 xs) (length_tests _ _) put)
+    let put = lay_rest 5 4 test_cells (c.args.to + 1) c.loop-i.i k _ _ _ _ xs (omega arith) ends c.lay_zeros.ensures c.loop-i.invariant.1 in
+    simp (sym c.number-count.ensures) (few_enough f 4 k xs (length_tests _ _) c.if-count.false all, refl, omega arith, counted c.args.words.now c.lay_zeros.new.words c.args.to (length xs) k (padded 5 test_cells 4 xs) (length_tests _ _) put)

@@ -17,7 +17,7 @@ loop-row-preserved c =
     let rows = c.args.rows.now in
     let i = c.loop-row.row-index in
     let done = lists (vec_items c.loop-row.long) in
-    ap (λ rs. rs ++ flat next (lists (drop (i + 1) rows))) (c.in-ok-go-on.ensures refl ∙ ap (λ r. done ++ next r) c.deref.ensures.value)
+    ap (λ rs. rs ++ flat next (lists (drop (i + 1) rows))) (c.in_ok-go_on.ensures refl ∙ ap (λ r. done ++ next r) c.deref.ensures.value)
     ∙ flat_more next vec_items rows i done c.row-item.result c.loop-row-test.true c.row-item.is ∙ c.loop-row.invariant
 
 pub returns : goal.returns

@@ -8,7 +8,7 @@ use Rattle.rows.specs.Rows.{goes_on}
 use Rattle.rows.specs.Finder.{lists}
 use Rattle.rows.proofs.Passing.{rest_put, put_taken, put_passed, put_over}
 use Rattle.rows.proofs.extension.go_on.Goals as goal
-use Rattle.rows.proofs.extension.go_on.Goals.{then-may-go-on+in-ok-with-next+in-ok-push, else-may-go-on}
+use Rattle.rows.proofs.extension.go_on.Goals.{then-may_go_on+in_ok-with_next+in_ok-push, else-may_go_on}
 
 pub loop-e-init : goal.loop-e-init
 loop-e-init c = refl
@@ -22,15 +22,15 @@ loop-e-preserved c =
     let next : Event → List Event = λ e. row ++ e ∷ [] in
     let done = lists (vec_items c.loop-e.rows) in
     let i = c.loop-e.e-index in
-    elim c.if-may-go-on.branch [
+    elim c.if-may_go_on.branch [
       | then-may-go-on+in-ok-with-next+in-ok-push w ↦
           ap (rest_put test next all (i + 1))
-          (ap (λ v. lists (vec_items v)) w.rows-is ∙ ap lists w.in-ok-push.ensures.items
-          ∙ each_append vec_items (vec_items c.loop-e.rows) (w.in-ok-with-next.field-0 ∷ []) ∙ ap (λ r. done ++ r ∷ []) w.in-ok-with-next.ensures)
-          ∙ put_taken test next all i done nothing c.loop-e-test.true (sym w.if-may-go-on.ensures) ∙ c.loop-e.invariant
+          (ap (λ v. lists (vec_items v)) w.rows-is ∙ ap lists w.in_ok-push.ensures.items
+          ∙ each_append vec_items (vec_items c.loop-e.rows) (w.in_ok-with_next.field-0 ∷ []) ∙ ap (λ r. done ++ r ∷ []) w.in_ok-with_next.ensures)
+          ∙ put_taken test next all i done nothing c.loop-e-test.true (sym w.if-may_go_on.ensures) ∙ c.loop-e.invariant
       | else-may-go-on w ↦
           ap (λ v. rest_put test next all (i + 1) (lists (vec_items v))) w.rows-is
-          ∙ put_passed test next all i done nothing c.loop-e-test.true (sym w.if-may-go-on.ensures) ∙ c.loop-e.invariant
+          ∙ put_passed test next all i done nothing c.loop-e-test.true (sym w.if-may_go_on.ensures) ∙ c.loop-e.invariant
     ]
 
 pub returns : goal.returns

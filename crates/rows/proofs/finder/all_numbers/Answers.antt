@@ -16,9 +16,9 @@ loop-row-preserved c =
     let rows = c.args.rows.now in
     let i = c.loop-row.row-index in
     let row = c.row-item.result in
-    ap lists c.in-ok-push.ensures.items
-    ∙ each_append vec_items (vec_items c.loop-row.all) (c.in-ok-numbers.field-0 ∷ [])
-    ∙ ap₂ (λ ns n. ns ++ n ∷ []) c.loop-row.invariant (c.in-ok-numbers.ensures ∙ ap numbers c.deref.ensures.value)
+    ap lists c.in_ok-push.ensures.items
+    ∙ each_append vec_items (vec_items c.loop-row.all) (c.in_ok-numbers.field-0 ∷ [])
+    ∙ ap₂ (λ ns n. ns ++ n ∷ []) c.loop-row.invariant (c.in_ok-numbers.ensures ∙ ap numbers c.deref.ensures.value)
     ∙ sym (each_append numbers (lists (take i rows)) (vec_items row ∷ []))
     ∙ ap (each numbers) (each_more vec_items rows i row row c.loop-row-test.true c.row-item.is)
 

@@ -11,7 +11,7 @@ loop-e-init c = c.new-heard.ensures.items
 pub loop-e-preserved : goal.loop-e-preserved
 loop-e-preserved c =
     let e = get_or c.args.row.now c.loop-e.e-index nothing in
-    c.in-ok-push.ensures.items
+    c.in_ok-push.ensures.items
     ∙ ap (λ ns. ns ++ e.heard ∷ []) c.loop-e.invariant
     ∙ each_more (λ e. e.heard) c.args.row.now c.loop-e.e-index e nothing c.loop-e-test.true refl
 

@@ -11,7 +11,7 @@ pub loop-step-init : goal.loop-step-init
 unfolding each
 loop-step-init c =
     let p = kept_pattern c.args.pattern.words.now in
-    ap (λ vs. flat (rows c.args.all.now p.within p.steps) (lists vs)) (c.in-ok-push.ensures.items ∙ ap (λ vs. vs ++ c.new.result ∷ []) c.new-rows.ensures.items)
+    ap (λ vs. flat (rows c.args.all.now p.within p.steps) (lists vs)) (c.in_ok-push.ensures.items ∙ ap (λ vs. vs ++ c.new.result ∷ []) c.new-rows.ensures.items)
     ∙ ap (λ r. flat (rows c.args.all.now p.within p.steps) (r ∷ [])) c.new.ensures.items
     ∙ level_first c.args.all.now p.within p.steps
 
@@ -24,7 +24,7 @@ loop-step-preserved c =
     let l : i < kept_count words = omega (arith, c.steps-step-end.ensures, c.loop-step-test.true) in
     let l₂ : i < length p.steps = omega (arith, l, steps_long words) in
     ap (flat (rows all p.within (drop (i + 1) p.steps)))
-    (c.in-ok-rows.ensures ∙ ap (λ vs. flat (longer all p.within (kept_step words i)) (lists vs)) c.deref.ensures.value)
+    (c.in_ok-rows.ensures ∙ ap (λ vs. flat (longer all p.within (kept_step words i)) (lists vs)) c.deref.ensures.value)
     ∙ level_more all p.within p.steps i (kept_step words i) (lists (vec_items c.loop-step.rows)) l₂ (steps_at words i (kept_step words i) l)
     ∙ c.loop-step.invariant
 

@@ -4,11 +4,11 @@ use Rattle.rows.specs.Held.{held}
 use Rattle.rows.proofs.FirstRow.{placed_is, next_none, next_some}
 use Rattle.rows.proofs.search.next_row.Goals as goal
 
-pub returns-then-not-is-placed : goal.returns-then-not-is-placed
-returns-then-not-is-placed c = next_none (held c.args.front.now c.args.back.now) (kept_pattern c.args.kept.words.now) c.args.upto c.args.cursor (sym (c.if-not-is-placed.ensures ∙ (placed_is c.args.front.now c.args.back.now c.args.kept.words.now c.args.upto c.args.cursor c.count.result c.steps.result c.count.ensures c.steps.ensures)))
+pub returns-then-not-is_placed : goal.returns-then-not-is_placed
+returns-then-not-is_placed c = next_none (held c.args.front.now c.args.back.now) (kept_pattern c.args.kept.words.now) c.args.upto c.args.cursor (sym (c.if-not-is_placed.ensures ∙ (placed_is c.args.front.now c.args.back.now c.args.kept.words.now c.args.upto c.args.cursor c.count.result c.steps.result c.count.ensures c.steps.ensures)))
 
-pub first-row-requires : goal.first-row-requires
-first-row-requires c = sym (c.if-not-is-placed.ensures ∙ (placed_is c.args.front.now c.args.back.now c.args.kept.words.now c.args.upto c.args.cursor c.count.result c.steps.result c.count.ensures c.steps.ensures))
+pub first_row-requires : goal.first_row-requires
+first_row-requires c = sym (c.if-not-is_placed.ensures ∙ (placed_is c.args.front.now c.args.back.now c.args.kept.words.now c.args.upto c.args.cursor c.count.result c.steps.result c.count.ensures c.steps.ensures))
 
 pub returns : goal.returns
-returns c = c.first-row.ensures ∙ next_some (held c.args.front.now c.args.back.now) (kept_pattern c.args.kept.words.now) c.args.upto c.args.cursor (sym (c.if-not-is-placed.ensures ∙ (placed_is c.args.front.now c.args.back.now c.args.kept.words.now c.args.upto c.args.cursor c.count.result c.steps.result c.count.ensures c.steps.ensures)))
+returns c = c.first_row.ensures ∙ next_some (held c.args.front.now c.args.back.now) (kept_pattern c.args.kept.words.now) c.args.upto c.args.cursor (sym (c.if-not-is_placed.ensures ∙ (placed_is c.args.front.now c.args.back.now c.args.kept.words.now c.args.upto c.args.cursor c.count.result c.steps.result c.count.ensures c.steps.ensures)))

@@ -12,9 +12,9 @@ returns c =
     let v = get_or words (at + 4) 0 in
     rw (one_taken (get_or words (at + 2) 0) i c.if-words-at-eq0.false)
     (
-    subst (λ x. Puts (x ∷ (codes "." ++ typed_field v)) (string_bytes c.args.text.now) (string_bytes c.put-field.new.text) c.put-field.result) c.letter-of.ensures
+    subst (λ x. Puts (x ∷ (codes "." ++ typed_field v)) (string_bytes c.args.text.now) (string_bytes c.put_field.new.text) c.put_field.result) c.letter_of.ensures
     (
-    puts_after (c.letter-of.result ∷ []) _ _ _ _ _ c.in-ok-put-letter.ensures
-    (puts_after (codes ".") (typed_field v) _ _ _ _ c.in-ok-push-str.ensures.bytes c.put-field.ensures)
+    puts_after (c.letter_of.result ∷ []) _ _ _ _ _ c.in_ok-put_letter.ensures
+    (puts_after (codes ".") (typed_field v) _ _ _ _ c.in_ok-push_str.ensures.bytes c.put_field.ensures)
     )
     )

@@ -9,5 +9,5 @@ use Rattle.syntax.proofs.writing.put_step.Goals as goal
 pub returns : goal.returns
 returns c =
     let s = kept_step c.args.words.now c.args.step in
-    subst (λ own. Puts (flat typed_never s.never ++ typed_item s.kind own s.tests) (string_bytes c.args.text.now) (string_bytes c.put-item.new.text) c.put-item.result) c.letter-of.ensures
-    (puts_after (flat typed_never s.never) (typed_item s.kind c.letter-of.result s.tests) _ _ _ _ c.in-ok-put-nevers.ensures c.put-item.ensures)
+    subst (λ own. Puts (flat typed_never s.never ++ typed_item s.kind own s.tests) (string_bytes c.args.text.now) (string_bytes c.put_item.new.text) c.put_item.result) c.letter_of.ensures
+    (puts_after (flat typed_never s.never) (typed_item s.kind c.letter_of.result s.tests) _ _ _ _ c.in_ok-put_nevers.ensures c.put_item.ensures)

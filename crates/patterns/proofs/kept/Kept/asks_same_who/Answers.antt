@@ -1,7 +1,6 @@
-use Rattle.std.proofs.Common.{ap, rules}
+use Rattle.std.proofs.Common.{rules}
 use Rattle.std.proofs.lemmas.Bool.{eqb-true}
 use Rattle.patterns.specs.Kept.{kept_step}
-use Rattle.patterns.specs.Asked.{with_who_of}
 use Rattle.patterns.proofs.Asking.{same_number, same_other, same_step, same_asked}
 use Rattle.patterns.proofs.kept.Kept.asks_same_who.Goals as goal
 

@@ -8,19 +8,19 @@ use Rattle.patterns.proofs.kept.Kept.tests_hold.Goals as goal
 
 pub loop-i-init : goal.loop-i-init
 loop-i-init c =
-    ap (every (holds c.args.earlier.now c.args.e)) (tests_all c.args.self.words.now c.args.at c.at-most-many.result c.at-most-many.ensures)
+    ap (every (holds c.args.earlier.now c.args.e)) (tests_all c.args.self.words.now c.args.at c.at_most-many.result c.at_most-many.ensures)
 
-pub returns-then-not-test-holds : goal.returns-then-not-test-holds
-returns-then-not-test-holds c =
+pub returns-then-not-test_holds : goal.returns-then-not-test_holds
+returns-then-not-test_holds c =
     sym (every_stop (holds c.args.earlier.now c.args.e) (λ j. kept_test c.args.self.words.now (c.args.at + 1 + 5 * j))
-    c.loop-i.i c.at-most-many.result c.loop-i-test.true (sym c.if-not-test-holds.ensures)) ∙ c.loop-i.invariant
+    c.loop-i.i c.at_most-many.result c.loop-i-test.true (sym c.if-not-test_holds.ensures)) ∙ c.loop-i.invariant
 
 pub loop-i-preserved : goal.loop-i-preserved
 loop-i-preserved c =
     every_more (holds c.args.earlier.now c.args.e) (λ j. kept_test c.args.self.words.now (c.args.at + 1 + 5 * j))
-    c.loop-i.i c.at-most-many.result c.loop-i-test.true (sym c.if-not-test-holds.ensures) ∙ c.loop-i.invariant
+    c.loop-i.i c.at_most-many.result c.loop-i-test.true (sym c.if-not-test_holds.ensures) ∙ c.loop-i.invariant
 
 pub returns : goal.returns
 returns c =
     sym (every_end (holds c.args.earlier.now c.args.e) (λ j. kept_test c.args.self.words.now (c.args.at + 1 + 5 * j))
-    c.loop-i.i c.at-most-many.result c.loop-i-test.false) ∙ c.loop-i.invariant
+    c.loop-i.i c.at_most-many.result c.loop-i-test.false) ∙ c.loop-i.invariant

@@ -6,18 +6,18 @@ use Rattle.rows.proofs.held.Held.first_in_reach.Goals as goal
 pub loop-p-init : goal.loop-p-init
 loop-p-init c = λ j l. absurd (omega arith)
 
-pub returns-then-is-within : goal.returns-then-is-within
-returns-then-is-within c =
+pub returns-then-is_within : goal.returns-then-is_within
+returns-then-is_within c =
     record {
       bounds = omega (arith, c.loop-p-test.true);
       passed = c.loop-p.invariant;
-      stops = λ _. sym (c.if-is-within.ensures ∙ ap (λ t. leb c.args.time (t + c.args.within)) c.time-at.ensures);
+      stops = λ _. sym (c.if-is_within.ensures ∙ ap (λ t. leb c.args.time (t + c.args.within)) c.time_at.ensures);
     }
 
 pub loop-p-preserved : goal.loop-p-preserved
 loop-p-preserved c =
     below_more (λ j. leb c.args.time ((nth (held c.args.self.front.now c.args.self.back.now) j).time + c.args.within) ≡ false) c.loop-p.p c.loop-p.invariant
-    (sym (c.if-is-within.ensures ∙ ap (λ t. leb c.args.time (t + c.args.within)) c.time-at.ensures))
+    (sym (c.if-is_within.ensures ∙ ap (λ t. leb c.args.time (t + c.args.within)) c.time_at.ensures))
 
 pub returns : goal.returns
 returns c =

@@ -6,14 +6,14 @@ use Rattle.rows.proofs.held.Held.next_of_kinds.Goals as goal
 pub returns-then-end-n : goal.returns-then-end-n
 returns-then-end-n c =
     record {
-      bounds = c.kinds-in.ensures.bounds;
-      passed = scanned_front c.args.self.front.now c.args.self.back.now (OfNeither c.args.one c.args.other) c.args.from c.kinds-in.result c.kinds-in.ensures.passed (omega (arith, c.kinds-in.ensures.bounds));
-      stops = λ l. stops_front c.args.self.front.now c.args.self.back.now (OfNeither c.args.one c.args.other) c.kinds-in.result (omega (arith, l)) (c.kinds-in.ensures.stops l);
+      bounds = c.kinds_in.ensures.bounds;
+      passed = scanned_front c.args.self.front.now c.args.self.back.now (OfNeither c.args.one c.args.other) c.args.from c.kinds_in.result c.kinds_in.ensures.passed (omega (arith, c.kinds_in.ensures.bounds));
+      stops = λ l. stops_front c.args.self.front.now c.args.self.back.now (OfNeither c.args.one c.args.other) c.kinds_in.result (omega (arith, l)) (c.kinds_in.ensures.stops l);
     }
 
 pub returns-then-from-n : goal.returns-then-from-n
 returns-then-from-n c =
-    let r = c.kinds-in-then-from-n in
+    let r = c.kinds_in-then-from-n in
     record {
       bounds = (omega (arith, r.ensures.bounds), omega (arith, r.ensures.bounds));
       passed = λ i l k.
@@ -25,16 +25,16 @@ returns-then-from-n c =
 pub returns-then-p-n : goal.returns-then-p-n
 returns-then-p-n c =
     record {
-      bounds = (c.kinds-in-p.ensures.bounds.0, omega (arith, c.kinds-in-p.ensures.bounds));
-      passed = scanned_front c.args.self.front.now c.args.self.back.now (OfNeither c.args.one c.args.other) c.args.from c.kinds-in-p.result c.kinds-in-p.ensures.passed (omega (arith, c.kinds-in-p.ensures.bounds));
-      stops = λ _. stops_front c.args.self.front.now c.args.self.back.now (OfNeither c.args.one c.args.other) c.kinds-in-p.result c.if-p-n.true (c.kinds-in-p.ensures.stops c.if-p-n.true);
+      bounds = (c.kinds_in-p.ensures.bounds.0, omega (arith, c.kinds_in-p.ensures.bounds));
+      passed = scanned_front c.args.self.front.now c.args.self.back.now (OfNeither c.args.one c.args.other) c.args.from c.kinds_in-p.result c.kinds_in-p.ensures.passed (omega (arith, c.kinds_in-p.ensures.bounds));
+      stops = λ _. stops_front c.args.self.front.now c.args.self.back.now (OfNeither c.args.one c.args.other) c.kinds_in-p.result c.if-p-n.true (c.kinds_in-p.ensures.stops c.if-p-n.true);
     }
 
 pub returns : goal.returns
 returns c =
     record {
-      bounds = (omega (arith, c.kinds-in-2.ensures.bounds), omega (arith, c.kinds-in-2.ensures.bounds));
-      passed = scanned_both c.args.self.front.now c.args.self.back.now (OfNeither c.args.one c.args.other) c.args.from c.kinds-in-p.result c.kinds-in-2.result c.kinds-in-p.ensures.passed (omega (arith, c.if-p-n.false)) c.kinds-in-2.ensures.passed
-          (omega (arith, c.kinds-in-2.ensures.bounds, c.requires.1));
-      stops = λ l. stops_back c.args.self.front.now c.args.self.back.now (OfNeither c.args.one c.args.other) c.kinds-in-2.result (omega (arith, l, c.requires.1)) (c.kinds-in-2.ensures.stops (omega (arith, l)));
+      bounds = (omega (arith, c.kinds_in-2.ensures.bounds), omega (arith, c.kinds_in-2.ensures.bounds));
+      passed = scanned_both c.args.self.front.now c.args.self.back.now (OfNeither c.args.one c.args.other) c.args.from c.kinds_in-p.result c.kinds_in-2.result c.kinds_in-p.ensures.passed (omega (arith, c.if-p-n.false)) c.kinds_in-2.ensures.passed
+          (omega (arith, c.kinds_in-2.ensures.bounds, c.requires.1));
+      stops = λ l. stops_back c.args.self.front.now c.args.self.back.now (OfNeither c.args.one c.args.other) c.kinds_in-2.result (omega (arith, l, c.requires.1)) (c.kinds_in-2.ensures.stops (omega (arith, l)));
     }

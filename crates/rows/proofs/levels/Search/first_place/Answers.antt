@@ -9,14 +9,14 @@ use Rattle.rows.proofs.levels.Search.first_place.Goals as goal
 pub returns-then-depth-eq1 : goal.returns-then-depth-eq1
 returns-then-depth-eq1 c =
     let h = held c.args.self.held.front.now c.args.self.held.back.now in
-    let s = starts_first h (kept_pattern c.args.self.kept.words.now) c.args.at.now c.args.depth c.first-in-reach.result c.if-depth-eq1.true
-    (omega (arith, c.requires.0.1.0, steps_long c.args.self.kept.words.now)) c.first-in-reach.ensures.bounds
+    let s = starts_first h (kept_pattern c.args.self.kept.words.now) c.args.at.now c.args.depth c.first_in_reach.result c.if-depth-eq1.true
+    (omega (arith, c.requires.0.1.0, steps_long c.args.self.kept.words.now)) c.first_in_reach.ensures.bounds
     (λ i l.
-    ap₂ (λ t w. leb t ((nth h i).time + w)) (sym (ap (λ e. e.time) c.requires.0.1.1)) (sym c.within-within.ensures) ∙ c.first-in-reach.ensures.passed i l) in
+    ap₂ (λ t w. leb t ((nth h i).time + w)) (sym (ap (λ e. e.time) c.requires.0.1.1)) (sym c.within-within.ensures) ∙ c.first_in_reach.ensures.passed i l) in
     record {
       bounds = s.0;
       passed = s.1;
-      reach = λ _ l. ap (λ w. leb c.args.last.time ((nth h c.first-in-reach.result).time + w)) (sym c.within-within.ensures) ∙ c.first-in-reach.ensures.stops l;
+      reach = λ _ l. ap (λ w. leb c.args.last.time ((nth h c.first_in_reach.result).time + w)) (sym c.within-within.ensures) ∙ c.first_in_reach.ensures.stops l;
       behind = λ l. absurd (omega (arith, l, c.if-depth-eq1.true));
     }
 

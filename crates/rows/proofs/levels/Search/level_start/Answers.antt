@@ -7,10 +7,10 @@ use Rattle.rows.proofs.levels.Search.level_start.Goals as goal
 pub returns-in-Some : goal.returns-in-Some
 returns-in-Some c =
     let h = held c.args.self.held.front.now c.args.self.held.back.now in
-    let r = c.last-of-kind.result in
+    let r = c.last_of_kind.result in
     let s = starts_unbroken h c.args.self.kept.words.now c.args.at.now c.args.depth c.told-at c.requires.0.1.0 (λ z. omega (arith, c.requires.0.0)) (c.if-depth-steps.false ∙ c.steps.ensures)
-    c.first-place-first.result r (c.first-place-first.ensures.bounds, c.first-place-first.ensures.passed) c.last-of-kind.ensures.bounds.0 c.last-of-kind.ensures.bounds.1
+    c.first_place-first.result r (c.first_place-first.ensures.bounds, c.first_place-first.ensures.passed) c.last_of_kind.ensures.bounds.0 c.last_of_kind.ensures.bounds.1
     (λ q.
-    let g = c.last-of-kind.ensures.found q in
+    let g = c.last_of_kind.ensures.found q in
     (g.0, λ es. c.in-Some.ensures.needed es (nth h r) g.1)) in
     record { bounds = s.0; passed = s.1 }

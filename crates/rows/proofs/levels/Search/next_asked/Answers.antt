@@ -11,15 +11,15 @@ returns-in-Some c =
     let words = c.args.self.kept.words.now in
     let h = held c.args.self.held.front.now c.args.self.held.back.now in
     record {
-      bounds = c.next-of-who.ensures.bounds;
+      bounds = c.next_of_who.ensures.bounds;
       passed = λ i l k.
           either_who (nth h i).who c.in-Some.who
           (λ t.
-          kept_kind_not h words c.args.at.now c.args.depth i c.kind-of-kind.result c.requires.0.0
-          (c.kind-of-kind.ensures ∙ ap (λ s. (kept_step words s).kind) (c.level_step.ensures ∙ ap (λ n. level_step n c.args.depth) c.steps.ensures))
-          (c.next-of-who.ensures.passed i l k t))
-          (λ t. c.in-Some.ensures i t (omega (arith, c.next-of-who.ensures.bounds, c.requires.0.1.1)));
+          kept_kind_not h words c.args.at.now c.args.depth i c.kind_of-kind.result c.requires.0.0
+          (c.kind_of-kind.ensures ∙ ap (λ s. (kept_step words s).kind) (c.level_step.ensures ∙ ap (λ n. level_step n c.args.depth) c.steps.ensures))
+          (c.next_of_who.ensures.passed i l k t))
+          (λ t. c.in-Some.ensures i t (omega (arith, c.next_of_who.ensures.bounds, c.requires.0.1.1)));
     }
 
 pub returns-in-None : goal.returns-in-None
-returns-in-None c = record { bounds = c.next-candidate.ensures.bounds; passed = c.next-candidate.ensures.passed }
+returns-in-None c = record { bounds = c.next_candidate.ensures.bounds; passed = c.next_candidate.ensures.passed }

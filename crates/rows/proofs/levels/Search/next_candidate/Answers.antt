@@ -8,9 +8,9 @@ pub returns : goal.returns
 returns c =
     let words = c.args.self.kept.words.now in
     record {
-      bounds = c.next-of-kind.ensures.bounds;
+      bounds = c.next_of_kind.ensures.bounds;
       passed = λ i l k.
-          kept_kind_not (held c.args.self.held.front.now c.args.self.held.back.now) words c.args.at.now c.args.depth i c.kind-of-kind.result c.requires.0
-          (c.kind-of-kind.ensures ∙ ap (λ s. (kept_step words s).kind) (c.level_step.ensures ∙ ap (λ n. level_step n c.args.depth) c.steps.ensures))
-          (c.next-of-kind.ensures.passed i l k);
+          kept_kind_not (held c.args.self.held.front.now c.args.self.held.back.now) words c.args.at.now c.args.depth i c.kind_of-kind.result c.requires.0
+          (c.kind_of-kind.ensures ∙ ap (λ s. (kept_step words s).kind) (c.level_step.ensures ∙ ap (λ n. level_step n c.args.depth) c.steps.ensures))
+          (c.next_of_kind.ensures.passed i l k);
     }

@@ -14,4 +14,4 @@ pub returns : goal.returns
 returns c =
     λ i t l.
     last_not c.args.self.held.front.now c.args.self.held.back.now c.args.self.kept.words.now c.args.at.now c.args.row.now c.args.depth c.told-at c.told-row c.requires.0
-    c.if-depth-eq0.false c.requires.1 i (c.if-depth-steps.false ∙ c.steps.ensures) (c.if-not-asks-same-who.ensures.needed refl) t
+    c.if-depth-eq0.false c.requires.1 i (c.if-depth-steps.false ∙ c.steps.ensures) (c.if-not-asks_same_who.ensures.needed refl) t
