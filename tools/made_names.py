@@ -10,7 +10,7 @@ import glob
 import os
 import re
 
-TOKEN = re.compile(r"[A-Za-z0-9_'₀-₉-]+")
+TOKEN = re.compile(r"[A-Za-z0-9_'₀-₉+-]+")
 WORDS = {"in-default": "in_default", "in-ok": "in_ok", "in-err": "in_err"}
 
 
@@ -39,13 +39,14 @@ def turn(path):
     text = open(path, encoding="utf-8").read()
     pairs = made(path)
     own = set(re.findall(r"(?:goal|given)\.([^\s]+)", text))
+    brought = {w.strip() for items in re.findall(r"(?m)^use \S+\.(?:Goals|Given)\.\{([^}]*)\}", text) for w in items.split(",")}
     out = []
     for line in text.split("\n"):
         goals = re.match(r"use \S+\.(Goals|Given)\.\{", line)
 
         def one(m):
             before = line[: m.start()]
-            if before.endswith(".") or m.group(0) in own or goals or "-via-" in m.group(0):
+            if before.endswith(".") or m.group(0) in own or goals or m.group(0) in brought:
                 return turned(m.group(0), pairs)
             return m.group(0)
 

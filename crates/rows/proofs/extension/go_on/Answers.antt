@@ -23,12 +23,12 @@ loop-e-preserved c =
     let done = lists (vec_items c.loop-e.rows) in
     let i = c.loop-e.e-index in
     elim c.if-may_go_on.branch [
-      | then-may-go-on+in-ok-with-next+in-ok-push w ↦
+      | then-may_go_on+in_ok-with_next+in_ok-push w ↦
           ap (rest_put test next all (i + 1))
           (ap (λ v. lists (vec_items v)) w.rows-is ∙ ap lists w.in_ok-push.ensures.items
           ∙ each_append vec_items (vec_items c.loop-e.rows) (w.in_ok-with_next.field-0 ∷ []) ∙ ap (λ r. done ++ r ∷ []) w.in_ok-with_next.ensures)
           ∙ put_taken test next all i done nothing c.loop-e-test.true (sym w.if-may_go_on.ensures) ∙ c.loop-e.invariant
-      | else-may-go-on w ↦
+      | else-may_go_on w ↦
           ap (λ v. rest_put test next all (i + 1) (lists (vec_items v))) w.rows-is
           ∙ put_passed test next all i done nothing c.loop-e-test.true (sym w.if-may_go_on.ensures) ∙ c.loop-e.invariant
     ]

@@ -17,15 +17,15 @@ loop-i-preserved c =
     let i = c.loop-i.i in
     let e = get_or fs i nothing in
     elim c.if-e-saturating_sub.branch [
-      | then-e-saturating-sub+in-ok-push w ↦
+      | then-e-saturating_sub+in_ok-push w ↦
           let new = ap vec_items w.counted-is ∙ w.in_ok-push.ensures.items in (
-            w.latest_is ∙ w.max-latest.ensures ∙ ap (λ t. max t e.time) c.loop-i.invariant.0 ∙ sym (ap latest new ∙ latest_push es (with_number i e)),
+            w.latest-is ∙ w.max-latest.ensures ∙ ap (λ t. max t e.time) c.loop-i.invariant.0 ∙ sym (ap latest new ∙ latest_push es (with_number i e)),
             λ p h.
                 let m : latest es - p.late ≤ e.time = omega (arith, w.if-e-saturating_sub.true, c.saturating_sub.ensures, c.loop-i.invariant.0, h) in
                 ap (λ xs. counted_after p (i + 1) xs (drop (i + 1) fs)) new ∙ count_taken fs i es p nothing c.loop-i-test.true (c.loop-i.invariant.1 p h) m,
           )
-      | else-e-saturating-sub w ↦ (
-        w.latest_is ∙ c.loop-i.invariant.0 ∙ ap (λ v. latest (vec_items v)) (sym w.counted-is),
+      | else-e-saturating_sub w ↦ (
+        w.latest-is ∙ c.loop-i.invariant.0 ∙ ap (λ v. latest (vec_items v)) (sym w.counted-is),
         λ p h.
             let m : e.time < latest es - p.late = omega (arith, w.if-e-saturating_sub.false, c.saturating_sub.ensures, c.loop-i.invariant.0, h) in
             ap (λ v. counted_after p (i + 1) (vec_items v) (drop (i + 1) fs)) w.counted-is ∙ count_late fs i es p nothing c.loop-i-test.true (c.loop-i.invariant.1 p h) m,

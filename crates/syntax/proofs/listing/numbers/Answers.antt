@@ -5,7 +5,7 @@ use Rattle.syntax.proofs.listing.numbers.Goals as goal
 
 pub unreachable-requires : goal.unreachable-requires
 unreachable-requires c =
-    never_short c.args.text.now _ _ c.in-Short.-needed c.in-Err.refusal c.in-Short.is (omega arith) c.in-Err.ensures.answer
+    never_short c.args.text.now _ _ c.in-Short._needed c.in-Err.refusal c.in-Short.is (omega arith) c.in-Err.ensures.answer
 
 pub returns-in-Ok-front : goal.returns-in-Ok-front
 returns-in-Ok-front c =

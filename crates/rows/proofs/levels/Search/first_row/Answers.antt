@@ -21,7 +21,9 @@ pub moves-smaller-then-at-depth : goal.moves-smaller-then-at-depth
 moves-smaller-then-at-depth c = (goes_back c.args.self.held.front.now c.args.self.held.back.now c.args.self.kept.words.now c.args.upto c.args.cursor c.requires c.steps-steps.result c.steps-steps.ensures c.moves.at c.moves.row c.moves.depth c.moves.invariant c.level_end-end.result c.level_end-end.ensures c.if-depth-eq0.false (omega (arith, c.if-at-depth.true))).1
 
 pub next_asked-p-requires : goal.next_asked-p-requires
-next_asked-p-requires c = candidate_ready c.args.self.held.front.now c.args.self.held.back.now c.args.self.kept.words.now c.args.upto c.args.cursor c.requires c.steps-steps.result c.steps-steps.ensures c.moves.at c.moves.row c.moves.depth c.moves.invariant c.level_end-end.result c.level_end-end.ensures (omega (arith, c.if-at-depth.false))
+next_asked-p-requires c =
+    let all = candidate_ready c.args.self.held.front.now c.args.self.held.back.now c.args.self.kept.words.now c.args.upto c.args.cursor c.requires c.steps-steps.result c.steps-steps.ensures c.moves.at c.moves.row c.moves.depth c.moves.invariant c.level_end-end.result c.level_end-end.ensures (omega (arith, c.if-at-depth.false)) in
+    record { depth_bound = all.0; along = all.1 }
 
 pub moves-preserved-then-p-end : goal.moves-preserved-then-p-end
 moves-preserved-then-p-end c = (goes_far c.args.self.held.front.now c.args.self.held.back.now c.args.self.kept.words.now c.args.upto c.args.cursor c.requires c.steps-steps.result c.steps-steps.ensures c.moves.at c.moves.row c.moves.depth c.moves.invariant c.level_end-end.result c.level_end-end.ensures c.next_asked-p.result c.next_asked-p.ensures.bounds c.next_asked-p.ensures.passed (omega (arith, c.if-at-depth.false)) c.if-p-end.true).0
@@ -45,7 +47,9 @@ pub returns-then-depth-steps : goal.returns-then-depth-steps
 returns-then-depth-steps c = tells c.args.self.held.front.now c.args.self.held.back.now c.args.self.kept.words.now c.args.upto c.args.cursor c.requires c.steps-steps.result c.steps-steps.ensures c.moves.at c.moves.row c.moves.depth c.moves.invariant c.level_end-end.result c.level_end-end.ensures c.next_asked-p.result c.next_asked-p.ensures.bounds c.next_asked-p.ensures.passed c.if-p-end.false c.get.result c.get.ensures c.if-not-may_stand.ensures c.told.result c.if-depth-steps.true c.told.ensures
 
 pub level_start-requires : goal.level_start-requires
-level_start-requires c = start_ready c.args.self.held.front.now c.args.self.held.back.now c.args.self.kept.words.now c.args.upto c.args.cursor c.requires c.steps-steps.result c.steps-steps.ensures c.moves.at c.moves.row c.moves.depth c.moves.invariant c.level_end-end.result c.level_end-end.ensures c.next_asked-p.result c.next_asked-p.ensures.bounds c.next_asked-p.ensures.passed c.if-p-end.false c.get.result c.get.ensures c.if-not-may_stand.ensures c.if-depth-steps.false
+level_start-requires c =
+    let all = start_ready c.args.self.held.front.now c.args.self.held.back.now c.args.self.kept.words.now c.args.upto c.args.cursor c.requires c.steps-steps.result c.steps-steps.ensures c.moves.at c.moves.row c.moves.depth c.moves.invariant c.level_end-end.result c.level_end-end.ensures c.next_asked-p.result c.next_asked-p.ensures.bounds c.next_asked-p.ensures.passed c.if-p-end.false c.get.result c.get.ensures c.if-not-may_stand.ensures c.if-depth-steps.false in
+    record { le_depth = all.0; at_bound = all.1 }
 
 pub moves-preserved : goal.moves-preserved
 moves-preserved c = (goes_down c.args.self.held.front.now c.args.self.held.back.now c.args.self.kept.words.now c.args.upto c.args.cursor c.requires c.steps-steps.result c.steps-steps.ensures c.moves.at c.moves.row c.moves.depth c.moves.invariant c.level_end-end.result c.level_end-end.ensures c.next_asked-p.result c.next_asked-p.ensures.bounds c.next_asked-p.ensures.passed c.if-p-end.false c.get.result c.get.ensures c.if-not-may_stand.ensures c.if-depth-steps.false c.level_start.result (c.level_start.ensures.bounds, c.level_start.ensures.passed)).0

@@ -10,33 +10,33 @@ use Rattle.rows.proofs.levels.Search.fits_at.Goals as goal
 pub returns-then-not-fits : goal.returns-then-not-fits
 returns-then-not-fits c =
     fits_not (held c.args.self.held.front.now c.args.self.held.back.now) (kept_pattern c.args.self.kept.words.now).within (kept_step c.args.self.kept.words.now c.args.step)
-    c.args.places.now c.args.earlier.now c.args.p c.args.e c.requires.1.0 c.requires.0.1 (sym c.if-not-fits.ensures)
+    c.args.places.now c.args.earlier.now c.args.p c.args.e c.requires.standing.0 c.requires.p_bound.1 (sym c.if-not-fits.ensures)
 
 pub returns-then-is_empty : goal.returns-then-is_empty
 returns-then-is_empty c =
     fits_first (held c.args.self.held.front.now c.args.self.held.back.now) (kept_pattern c.args.self.kept.words.now).within (kept_step c.args.self.kept.words.now c.args.step)
-    c.args.places.now c.args.earlier.now c.args.p c.args.e c.requires.1.0 c.requires.0.1 (sym c.if-not-fits.ensures) (sym c.if-is_empty.ensures)
+    c.args.places.now c.args.earlier.now c.args.p c.args.e c.requires.standing.0 c.requires.p_bound.1 (sym c.if-not-fits.ensures) (sym c.if-is_empty.ensures)
 
 pub bounds-earlier-0 : goal.bounds-earlier-0
-bounds-earlier-0 c = let n = eqb-false (length c.args.places.now) 0 (sym c.if-is_empty.ensures) in omega (arith, c.requires.1.1)
+bounds-earlier-0 c = let n = eqb-false (length c.args.places.now) 0 (sym c.if-is_empty.ensures) in omega (arith, c.requires.standing.1)
 
 pub returns-then-not-is_within : goal.returns-then-not-is_within
 returns-then-not-is_within c =
     let n = eqb-false (length c.args.places.now) 0 (sym c.if-is_empty.ensures) in
     fits_late (held c.args.self.held.front.now c.args.self.held.back.now) (kept_pattern c.args.self.kept.words.now).within (kept_step c.args.self.kept.words.now c.args.step)
-    c.args.places.now c.args.earlier.now c.args.p c.args.e c.requires.1.0 c.requires.0.1 (sym c.if-not-fits.ensures) (sym c.if-is_empty.ensures) (omega arith)
+    c.args.places.now c.args.earlier.now c.args.p c.args.e c.requires.standing.0 c.requires.p_bound.1 (sym c.if-not-fits.ensures) (sym c.if-is_empty.ensures) (omega arith)
     (sym (c.if-not-is_within.ensures ∙ ap (λ n. leb c.args.e.time ((get_or c.args.earlier.now 0 nothing).time + n)) c.within.ensures))
 
 pub is_broken-requires : goal.is_broken-requires
 is_broken-requires c =
     let n = eqb-false (length c.args.places.now) 0 (sym c.if-is_empty.ensures) in
-    let i = c.requires.1.0.inside (length c.args.places.now - 1) (omega arith) in
-    (omega (arith, length_held c.args.self.held.front.now c.args.self.held.back.now), omega (arith, c.requires.0.0))
+    let i = c.requires.standing.0.inside (length c.args.places.now - 1) (omega arith) in
+    (omega (arith, length_held c.args.self.held.front.now c.args.self.held.back.now), omega (arith, c.requires.p_bound.0))
 
 pub returns : goal.returns
 returns c =
     let n = eqb-false (length c.args.places.now) 0 (sym c.if-is_empty.ensures) in
     ap not c.is_broken.ensures
     ∙ fits_else (held c.args.self.held.front.now c.args.self.held.back.now) (kept_pattern c.args.self.kept.words.now).within (kept_step c.args.self.kept.words.now c.args.step)
-    c.args.places.now c.args.earlier.now c.args.p c.args.e c.requires.1.0 c.requires.0.1 (sym c.if-not-fits.ensures) (sym c.if-is_empty.ensures) (omega arith)
+    c.args.places.now c.args.earlier.now c.args.p c.args.e c.requires.standing.0 c.requires.p_bound.1 (sym c.if-not-fits.ensures) (sym c.if-is_empty.ensures) (omega arith)
     (sym (c.if-not-is_within.ensures ∙ ap (λ n. leb c.args.e.time ((get_or c.args.earlier.now 0 nothing).time + n)) c.within.ensures))

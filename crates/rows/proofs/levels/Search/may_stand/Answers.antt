@@ -7,12 +7,13 @@ use Rattle.rows.proofs.levels.Search.may_stand.Goals as goal
 
 pub fits_at-requires : goal.fits_at-requires
 fits_at-requires c =
-    along_ready c.args.self.held.front.now c.args.self.held.back.now c.args.at.now c.args.row.now (c.args.depth + 1) 0 0 c.told-at c.told-row c.requires.1 (omega arith) (omega arith)
-    (omega (arith, steps_six c.args.self.kept.words.now, c.requires.0))
+    let all = along_ready c.args.self.held.front.now c.args.self.held.back.now c.args.at.now c.args.row.now (c.args.depth + 1) 0 0 c.told-at c.told-row c.requires.1 (omega arith) (omega arith)
+    (omega (arith, steps_six c.args.self.kept.words.now, c.requires.0)) in
+    record { p_bound = all.0; standing = all.1 }
 
 pub returns-then-steps-eq1 : goal.returns-then-steps-eq1
 returns-then-steps-eq1 c =
-    c.fits_at-2.ensures
+    c.fits_at.ensures
     ∙ sym (ok_one (held c.args.self.held.front.now c.args.self.held.back.now) c.args.self.kept.words.now c.args.at.now c.args.depth c.if-depth-eq0.true
     (sym c.steps-steps.ensures ∙ c.if-steps-eq1.true))
 
@@ -25,8 +26,9 @@ returns-then-depth-eq0 c =
 
 pub fits_at-requires-2 : goal.fits_at-requires-2
 fits_at-requires-2 c =
-    along_ready c.args.self.held.front.now c.args.self.held.back.now c.args.at.now c.args.row.now (c.args.depth + 1) c.args.depth (c.args.depth - 1) c.told-at c.told-row c.requires.1
-    (omega arith) (omega arith) (omega (arith, steps_six c.args.self.kept.words.now, c.requires.0))
+    let all = along_ready c.args.self.held.front.now c.args.self.held.back.now c.args.at.now c.args.row.now (c.args.depth + 1) c.args.depth (c.args.depth - 1) c.told-at c.told-row c.requires.1
+    (omega arith) (omega arith) (omega (arith, steps_six c.args.self.kept.words.now, c.requires.0)) in
+    record { p_bound = all.0; standing = all.1 }
 
 pub returns-then-not-fits_at : goal.returns-then-not-fits_at
 returns-then-not-fits_at c =
@@ -40,8 +42,9 @@ returns-then-depth-steps c =
 
 pub fits_at-requires-3 : goal.fits_at-requires-3
 fits_at-requires-3 c =
-    along_ready c.args.self.held.front.now c.args.self.held.back.now c.args.at.now c.args.row.now (c.args.depth + 1) 0 (c.args.depth + 1 - 1) c.told-at c.told-row c.requires.1
-    (omega arith) (omega arith) (omega (arith, steps_six c.args.self.kept.words.now, c.requires.0))
+    let all = along_ready c.args.self.held.front.now c.args.self.held.back.now c.args.at.now c.args.row.now (c.args.depth + 1) 0 (c.args.depth + 1 - 1) c.told-at c.told-row c.requires.1
+    (omega arith) (omega arith) (omega (arith, steps_six c.args.self.kept.words.now, c.requires.0)) in
+    record { p_bound = all.0; standing = all.1 }
 
 pub returns : goal.returns
 returns c =
