@@ -1,32 +1,30 @@
 -- An event that counts, to its end: which rows are told, and that the memory is then that of what came.
-use Rattle.std.proofs.Common.{◌≡◌, ℕ, zero, suc, ◌+◌, ◌-◌, ◌%◌, ◌<◌, ◌≤◌, Bool, true, false, not, ◌&&◌, eqb, ltb, leb, List, [], ◌∷◌, ◌++◌, length, drop, sym, refl, ap, ◌∙◌, subst, ap₂, arith}
+use Rattle.std.proofs.Common.{◌≡◌, ℕ, suc, ◌+◌, ◌-◌, ◌%◌, ◌<◌, ◌≤◌, Bool, true, false, not, ◌&&◌, eqb, ltb, leb, List, length, drop, sym, refl, ap, ◌∙◌, ap₂, arith}
 use Rattle.std.proofs.lemmas.List.{length-drop}
-use Rattle.std.proofs.lemmas.Bool.{ltb-true, ltb-false, and_parts}
 use Rattle.std.proofs.lemmas.Bool.Decides.{nat_tests}
 use Rattle.timeline.specs.declared.events.Event.{Event}
 use Rattle.timeline.specs.Lists.{pick, those, every, each, run}
-use Rattle.timeline.specs.Order.{before, sorted, nth, last_of, latest, each_heard}
-use Rattle.timeline.specs.Ring.{capacity, ring_long, events, laid, with_forgotten}
+use Rattle.timeline.specs.Order.{before, nth, latest}
+use Rattle.timeline.specs.Ring.{capacity, laid, with_forgotten}
 use Rattle.timeline.proofs.Sorting.{Ord}
-use Rattle.timeline.proofs.Order.{sorted_ord, length_sorted}
+use Rattle.timeline.proofs.Order.{sorted_ord}
 use Rattle.timeline.proofs.Laid.{laid_long, laid_forget}
 use Rattle.patterns.specs.Patterns.{Pattern}
 use Rattle.patterns.specs.Kept.{pattern_cells}
-use Rattle.rows.specs.Rows.{all_rows}
 use Rattle.rows.specs.Known.{heard_to, too_late, is_held, numbers, newly}
-use Rattle.rows.specs.Newly.{settled as was_settled, fresh, NewlyHeld}
+use Rattle.rows.specs.Newly.{settled as was_settled, NewlyHeld}
 use Rattle.rows.specs.Finding.{row_of, placed, to_come}
 use Rattle.rows.specs.SearchLaws.{begin_at, same, Just}
 use Rattle.rows.proofs.Newly.{newly_held}
 use Rattle.rows.proofs.AllFound.{rest_told}
 use Rattle.listener.specs.declared.head.Phase.TheVariants.{Waiting, Telling}
 use Rattle.listener.specs.declared.head.Head.{Head}
-use Rattle.listener.specs.Machine.{room, no_places, a_head, below_run, memory_of, settled_head, settled}
+use Rattle.listener.specs.Machine.{room, no_places, a_head, below_run, memory_of, settled}
 use Rattle.listener.specs.Holding.{held_list, waiting_head, zero_ring, waiting_memory}
 use Rattle.listener.proofs.Fronts.{Lower, front_passes, back_fails, time_lower, below_run_is, below_run_drop, below_run_most, below_run_grows}
 use Rattle.listener.proofs.Steps.{Sound}
-use Rattle.listener.proofs.Holding.{Numbered, numbered_more, came, new, with_came, mark_grows, stale_is, forgotten, known_is, upto_is, heard_those}
-use Rattle.listener.proofs.Counts.{zero_long, listed_few, listed_back, mark, mark₁, known, stale, upto, telling}
+use Rattle.listener.proofs.Holding.{Numbered, numbered_more, came, new, with_came, stale_is, forgotten, known_is, upto_is, heard_those}
+use Rattle.listener.proofs.Counts.{zero_long, listed_few, mark, mark₁, known, stale, upto, telling}
 
 settled_lower : (a : ℕ) (c : Event) → Lower (was_settled a c)
 settled_lower a c x y q h = grind (arith, nat_tests)

@@ -1,28 +1,20 @@
 -- An event that counts: the ring and the state in which its rows are told, the rows, and the memory when they are told.
-use Rattle.std.proofs.Common.{◌≡◌, ℕ, zero, suc, ◌+◌, ◌-◌, ◌%◌, ◌<◌, ◌≤◌, Bool, true, false, not, ◌&&◌, eqb, ltb, leb, List, [], ◌∷◌, ◌++◌, length, drop, replicate, sym, refl, ap, ◌∙◌, subst, ap₂, add-one, arith}
-use Rattle.std.proofs.lemmas.List.{length-replicate, length-drop}
-use Rattle.std.proofs.lemmas.Bool.{ltb-true, ltb-false, leb-true, and_parts}
-use Rattle.std.proofs.lemmas.Bool.Decides.{nat_tests}
+use Rattle.std.proofs.Common.{◌≡◌, ℕ, suc, ◌+◌, ◌-◌, ◌≤◌, Bool, true, false, ltb, List, length, drop, sym, refl, ap, ◌∙◌, ap₂, add-one, arith}
+use Rattle.std.proofs.lemmas.List.{length-replicate}
 use Rattle.timeline.specs.declared.events.Event.{Event}
-use Rattle.timeline.specs.Lists.{pick, those, every, each}
-use Rattle.timeline.specs.Order.{before, put, sorted, nth, latest, each_heard}
+use Rattle.timeline.specs.Lists.{pick, those}
+use Rattle.timeline.specs.Order.{put, latest}
 use Rattle.timeline.specs.Ordered.{put_last}
-use Rattle.timeline.specs.Ring.{capacity, ring_long, events, laid, with_put, with_forgotten}
-use Rattle.timeline.proofs.Lists.{All}
-use Rattle.timeline.proofs.Order.{length_put, sorted_ord, length_sorted, latest_snoc}
+use Rattle.timeline.specs.Ring.{ring_long, events, laid, with_put}
+use Rattle.timeline.proofs.Order.{length_put, sorted_ord, latest_snoc}
 use Rattle.timeline.proofs.Ordering.{ordered_from, put_last_belongs}
-use Rattle.timeline.proofs.Laid.{laid_long, events_of_laid, laid_over, laid_forget}
+use Rattle.timeline.proofs.Laid.{events_of_laid, laid_over}
 use Rattle.patterns.specs.Patterns.{Pattern, named}
-use Rattle.patterns.specs.Kept.{pattern_cells}
-use Rattle.rows.specs.Rows.{all_rows}
 use Rattle.rows.specs.Known.{heard_to, too_late, is_held, with_number}
-use Rattle.rows.specs.Newly.{settled, fresh}
-use Rattle.rows.specs.SearchLaws.{begin_at, same, Just}
 use Rattle.listener.specs.declared.head.Head.{Head}
-use Rattle.listener.specs.Machine.{room, no_places, a_head, below_run, latest_with, stale_with, counting, ring_with, len_with, telling_head}
-use Rattle.listener.specs.Holding.{held_list, waiting_head, zero_ring, waiting_memory}
-use Rattle.listener.proofs.Fronts.{front_passes, back_fails, time_lower, below_run_is, below_run_drop, below_run_most}
-use Rattle.listener.proofs.Holding.{Numbered, came, new, with_came, mark_grows, with_came_is, stale_bound, stale_is, forgotten, length_with, held_is, known_is, upto_is}
+use Rattle.listener.specs.Machine.{room, no_places, below_run, latest_with, stale_with, counting, ring_with, len_with, telling_head}
+use Rattle.listener.specs.Holding.{held_list, waiting_head, zero_ring}
+use Rattle.listener.proofs.Holding.{Numbered, new, with_came, with_came_is, length_with, upto_is}
 
 pub zero_long : length zero_ring ≡ ring_long
 zero_long = length-replicate {A = ℕ} ring_long 0

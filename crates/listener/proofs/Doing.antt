@@ -1,5 +1,5 @@
 -- What the code does is what the machine does, case by case, over plain variables.
-use Rattle.std.proofs.Common.{◌≡◌, ℕ, suc, ◌+◌, ◌-◌, ◌%◌, ◌<◌, ◌≤◌, Bool, true, false, ltb, List, [], ◌∷◌, ◌++◌, length, get_or, take, drop, Some, None, Option, sym, refl, ap, ◌∙◌, subst, ap₂, arith, le-ltb, lt-ltb}
+use Rattle.std.proofs.Common.{◌≡◌, ℕ, ◌+◌, ◌-◌, ◌%◌, ◌<◌, ◌≤◌, Bool, List, ◌++◌, length, get_or, take, drop, Some, None, Option, sym, refl, ap, ◌∙◌, subst, ap₂, arith, le-ltb, lt-ltb}
 use Rattle.std.proofs.lemmas.List.{length-take-le}
 use Rattle.std.proofs.lemmas.Bool.Decides.{nat_tests as by_tests}
 use Rattle.timeline.specs.declared.events.Event.{Event}
@@ -14,12 +14,11 @@ use Rattle.rows.specs.SearchLaws.{begin_at}
 use Rattle.listener.specs.declared.head.Phase.{Phase}
 use Rattle.listener.specs.declared.head.Phase.TheVariants.{New, Waiting, Telling, Ending, Over as Done}
 use Rattle.listener.specs.declared.head.Head.{Head}
-use Rattle.listener.specs.declared.head.Turn.{Turn}
 use Rattle.listener.specs.declared.head.Turn.TheVariants.{Late, Full, Counts}
 use Rattle.listener.specs.declared.acts.Told.{Told}
 use Rattle.listener.specs.declared.acts.Told.TheVariants.{Row}
 use Rattle.listener.specs.Engine.{Act, tells, waits, Stepped}
-use Rattle.listener.specs.Machine.{memory_long, no_places, memory_of, cells_of, ring_of, room, latest_with, stale_with, counting, hear, settled_head, settled, phase_after, act_after, with_places, told_or_settled, tell_from, below_run, ring_with, len_with, turned}
+use Rattle.listener.specs.Machine.{memory_long, no_places, memory_of, cells_of, ring_of, room, stale_with, counting, hear, settled_head, settled, phase_after, act_after, with_places, told_or_settled, tell_from, below_run, ring_with, len_with, turned}
 use Rattle.listener.specs.Entry.{ActTold, Did}
 use Rattle.listener.proofs.Words.{cells_stay, ring_there}
 

@@ -1,13 +1,12 @@
 -- One step as the world outside sees it: what is told by a number, and which calls fit.
-use Rattle.std.proofs.Common.{◌≡◌, ℕ, ◌<◌, ◌≤◌, Bool, true, false, ◌&&◌, eqb, leb, ◌⊎◌, List, length, get_or, sym, refl, ap, ◌∙◌, subst, inl, inr, arith}
+use Rattle.std.proofs.Common.{◌≡◌, ℕ, ◌<◌, ◌≤◌, Bool, true, false, ◌&&◌, eqb, leb, List, length, get_or, sym, refl, ap, ◌∙◌, subst, arith}
 use Rattle.std.proofs.lemmas.List.{length-replicate}
 use Rattle.std.proofs.lemmas.Bool.{ne_eqb}
 use Rattle.std.proofs.lemmas.Bool.Decides.{nat_tests as by_tests}
-use Rattle.timeline.specs.Lists.{pick}
 use Rattle.patterns.specs.Numbers.{pattern_in}
 use Rattle.listener.specs.declared.acts.Told.{Told}
 use Rattle.listener.specs.declared.acts.Told.TheVariants.{No}
-use Rattle.listener.specs.Engine.{ToldIt, begins, comes, ends, next, Stepped}
+use Rattle.listener.specs.Engine.{ToldIt, next, Stepped}
 use Rattle.listener.specs.Machine.{memory_long, begun, came, ended, gone_on, machine, own}
 use Rattle.listener.specs.Entry.{told_of, ActTold, Did, StepSays, step_fits}
 use Rattle.listener.proofs.Steps.{own_is}

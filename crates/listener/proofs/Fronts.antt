@@ -1,9 +1,9 @@
 -- Fronts of a list in order: how many events at its beginning pass a test that none passes behind one that fails.
-use Rattle.std.proofs.Common.{◌≡◌, ℕ, zero, suc, ◌+◌, ◌-◌, ◌<◌, ◌≤◌, Bool, true, false, not, ◌&&◌, eqb, ltb, leb, List, [], ◌∷◌, ◌++◌, length, drop, sym, refl, ap, ◌∙◌, add-one, arith, le-ltb, lt-ltb}
+use Rattle.std.proofs.Common.{◌≡◌, ℕ, zero, suc, ◌+◌, ◌<◌, ◌≤◌, Bool, true, false, not, ltb, List, [], ◌∷◌, length, drop, refl, ap, ◌∙◌, add-one, arith, le-ltb, lt-ltb}
 use Rattle.std.proofs.lemmas.List.{drop_all}
 use Rattle.std.proofs.lemmas.Bool.Decides.{nat_tests}
 use Rattle.timeline.specs.declared.events.Event.{Event}
-use Rattle.timeline.specs.Lists.{pick, those}
+use Rattle.timeline.specs.Lists.{those}
 use Rattle.timeline.specs.Order.{before, nth}
 use Rattle.timeline.proofs.Lists.{All, all_map, those_none, those_all}
 use Rattle.timeline.proofs.Sorting.{Ord}

@@ -1,5 +1,5 @@
 -- What an event brings about, case by case: it is too late, there is no room, or it counts.
-use Rattle.std.proofs.Common.{◌≡◌, ℕ, ◌+◌, ◌-◌, Bool, true, false, ltb, List, sym, refl, ap, ◌∙◌}
+use Rattle.std.proofs.Common.{◌≡◌, ℕ, ◌+◌, ◌-◌, true, false, ltb, List, ap, ◌∙◌}
 use Rattle.timeline.specs.declared.events.Event.{Event}
 use Rattle.timeline.specs.Lists.{pick}
 use Rattle.timeline.specs.Ring.{events}
@@ -8,7 +8,7 @@ use Rattle.patterns.specs.Kept.{kept_pattern}
 use Rattle.rows.specs.SearchLaws.{begin_at}
 use Rattle.listener.specs.declared.head.Phase.TheVariants.{Waiting, Telling, Over}
 use Rattle.listener.specs.declared.head.Head.{Head}
-use Rattle.listener.specs.Engine.{late, refused, Stepped}
+use Rattle.listener.specs.Engine.{late, refused}
 use Rattle.listener.specs.Machine.{room, memory_of, stepped, tell_from, stale_with, counting, hear, ring_with, telling_head, counted_head, turned, heard}
 
 module _ (p : Pattern) (cells : List ℕ) (means : kept_pattern cells ≡ p) (h : Head) (ring : List ℕ) (e : Event) where

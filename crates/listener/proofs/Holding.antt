@@ -1,13 +1,12 @@
 -- What is held, from one event to the next: the list that the ring has, as an event comes and as what is stale is forgotten.
-use Rattle.std.proofs.Common.{◌≡◌, ℕ, zero, suc, ◌+◌, ◌-◌, ◌<◌, ◌≤◌, Bool, true, false, not, ◌&&◌, eqb, ltb, leb, List, [], ◌∷◌, ◌++◌, length, drop, sym, refl, ap, ◌∙◌, subst, ap₂, arith}
+use Rattle.std.proofs.Common.{◌≡◌, ℕ, suc, ◌+◌, ◌-◌, ◌<◌, ◌≤◌, Bool, true, false, not, ◌&&◌, ltb, leb, List, [], ◌∷◌, ◌++◌, length, drop, sym, refl, ap, ◌∙◌, arith}
 use Rattle.std.proofs.lemmas.List.{append-nil, length-drop}
 use Rattle.std.proofs.lemmas.Bool.{ltb-true, ltb-false, and_parts}
 use Rattle.std.proofs.lemmas.Bool.Decides.{nat_tests}
 use Rattle.timeline.specs.declared.events.Event.{Event}
 use Rattle.timeline.specs.Lists.{pick, those}
-use Rattle.timeline.specs.Order.{before, put, sorted, nth, latest, each_heard}
+use Rattle.timeline.specs.Order.{put, sorted, each_heard}
 use Rattle.timeline.proofs.Lists.{All, all_any, all_map, all_append, all_those, all_part, those_append, those_same}
-use Rattle.timeline.proofs.Sorting.{Ord}
 use Rattle.timeline.proofs.Order.{latest_grows, sorted_snoc, length_put, length_sorted, sorted_ord, those_sorted, all_sorted}
 use Rattle.patterns.specs.Patterns.{Pattern, named}
 use Rattle.rows.specs.Known.{heard_to, too_late, held, is_held, with_number}
@@ -15,7 +14,7 @@ use Rattle.rows.specs.Newly.{settled, HeldLater, NeverStale}
 use Rattle.rows.proofs.Newly.{held_later, never_stale}
 use Rattle.listener.specs.Machine.{below_run}
 use Rattle.listener.specs.Holding.{held_list}
-use Rattle.listener.proofs.Fronts.{Lower, front_passes, back_fails, time_lower, below_run_is, drop_front, below_run_drop, below_run_most}
+use Rattle.listener.proofs.Fronts.{time_lower, below_run_is, drop_front, below_run_drop, below_run_most}
 
 -- numbered as they came: rising, and all below a number
 abbrev pub Numbered : ℕ → List Event → Type 0

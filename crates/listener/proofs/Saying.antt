@@ -1,5 +1,5 @@
 -- What the listener is told, case by case: each check hands on its value, or it is refused and nothing is changed.
-use Rattle.std.proofs.Common.{◌≡◌, ℕ, ◌+◌, ◌<◌, ◌≤◌, Bool, true, false, eqb, ltb, leb, List, [], ◌∷◌, ◌++◌, length, get_or, take, drop, Some, None, Err, Option, sym, refl, ap, ◌∙◌, subst, ap₂, arith, rules}
+use Rattle.std.proofs.Common.{◌≡◌, ℕ, ◌+◌, ◌<◌, ◌≤◌, true, false, ltb, List, length, take, drop, Some, None, Err, Option, sym, refl, ap, ◌∙◌, subst, ap₂, arith, rules}
 use Rattle.std.proofs.lemmas.List.{same_lists, places, length-take-le, length-drop}
 use Rattle.std.proofs.lemmas.Slice.{between-put_mid, drop-put_mid}
 use Rattle.std.proofs.lemmas.Bool.{and_parts, ltb-true}
@@ -15,15 +15,14 @@ use Rattle.patterns.specs.Reading.{Keeps}
 use Rattle.patterns.specs.declared.keeping.Refusal.{Refusal}
 use Rattle.patterns.specs.declared.keeping.Refusal.TheVariants.{NoPattern, NotAsLong}
 use Rattle.rows.specs.SearchLaws.{begin_at}
-use Rattle.listener.specs.declared.head.Phase.{Phase}
 use Rattle.listener.specs.declared.head.Phase.TheVariants.{New, Waiting, Telling, Ending, Over}
 use Rattle.listener.specs.declared.head.Head.{Head}
 use Rattle.listener.specs.declared.head.Turn.{Turn}
-use Rattle.listener.specs.declared.head.Turn.TheVariants.{Late, Full, Counts}
+use Rattle.listener.specs.declared.head.Turn.TheVariants.{Late, Full}
 use Rattle.listener.specs.declared.acts.Told.{Told}
 use Rattle.listener.specs.declared.acts.Told.TheVariants.{Waits, Late as TooLate, No}
-use Rattle.listener.specs.Engine.{Act, waits, refused, Stepped}
-use Rattle.listener.specs.Machine.{memory_long, memory_of, cells_of, ring_of, head_at, with_some, stepped, blank, tell_from, cursor_of, begun, hear, counted_head, turned, heard, event_of, came, ending_head, ended, resumed, gone_on}
+use Rattle.listener.specs.Engine.{waits, refused, Stepped}
+use Rattle.listener.specs.Machine.{memory_long, memory_of, cells_of, ring_of, head_at, with_some, stepped, blank, tell_from, begun, hear, counted_head, turned, heard, event_of, came, ending_head, ended, resumed, gone_on}
 use Rattle.listener.specs.Entry.{ActTold, Did}
 
 -- a refusal leaves all as it was

@@ -1,15 +1,14 @@
 -- What a step of the listener is from a memory that it wrote itself.
-use Rattle.std.proofs.Common.{◌≡◌, ℕ, suc, ◌+◌, ◌<◌, ◌≤◌, Bool, true, false, ◌&&◌, eqb, ltb, leb, List, [], ◌∷◌, ◌++◌, length, get_or, take, drop, Some, None, sym, refl, ap, ◌∙◌, ap₂, arith}
+use Rattle.std.proofs.Common.{◌≡◌, ℕ, true, List, length, None, refl, ◌∙◌, ap₂}
 use Rattle.std.proofs.lemmas.Bool.{eq-eqb}
-use Rattle.timeline.specs.Lists.{pick}
 use Rattle.timeline.specs.Ring.{ring_long}
 use Rattle.patterns.specs.Limits.{an_event}
 use Rattle.rows.specs.SearchLaws.{begin_at}
 use Rattle.listener.specs.declared.head.Phase.{Phase}
-use Rattle.listener.specs.declared.head.Phase.TheVariants.{New, Waiting, Telling, Ending, Over}
+use Rattle.listener.specs.declared.head.Phase.TheVariants.{Waiting, Telling, Ending}
 use Rattle.listener.specs.declared.head.Head.{Head}
-use Rattle.listener.specs.Engine.{ToldIt, begins, comes, ends, next, refused, Stepped}
-use Rattle.listener.specs.Machine.{memory_long, memory_of, a_head, head_at, with_some, stepped, tell_from, cursor_of, ending_head, event_of, heard, came, ended, resumed, gone_on, machine, own}
+use Rattle.listener.specs.Engine.{ToldIt, comes, ends, next}
+use Rattle.listener.specs.Machine.{memory_long, memory_of, a_head, head_at, tell_from, cursor_of, ending_head, event_of, heard, came, ended, resumed, gone_on, machine, own}
 use Rattle.listener.proofs.Words.{ring_back, cells_back, memory_length, head_found}
 
 -- a state and the other parts of a memory that the listener can have written

@@ -1,25 +1,19 @@
 -- The story: from one event to all of them, and to the end.
-use Rattle.std.proofs.Common.{◌≡◌, ℕ, zero, suc, ◌+◌, ◌-◌, ◌<◌, ◌≤◌, Bool, true, false, ◌&&◌, ltb, ◌⊎◌, List, [], ◌∷◌, ◌++◌, length, drop, sym, refl, ap, ◌∙◌, subst, ap₂, inl, inr, append_assoc, append-nil, add-zero, add-suc, add_comm, arith}
-use Rattle.std.proofs.lemmas.Bool.{and_parts}
+use Rattle.std.proofs.Common.{◌≡◌, ℕ, zero, suc, ◌+◌, false, ltb, List, [], ◌∷◌, ◌++◌, length, drop, sym, refl, ap, ◌∙◌, subst, add_comm, arith}
 use Rattle.std.proofs.lemmas.Bool.Decides.{nat_tests as by_tests}
 use Rattle.timeline.specs.declared.events.Event.{Event}
-use Rattle.timeline.specs.Lists.{pick, every, each, those, flat}
-use Rattle.timeline.specs.Order.{sorted, last_of, latest}
+use Rattle.timeline.specs.Lists.{pick, each, those}
+use Rattle.timeline.specs.Order.{last_of}
 use Rattle.timeline.proofs.Lists.{drop_front}
 use Rattle.patterns.specs.Patterns.{Pattern}
-use Rattle.patterns.specs.Limits.{a_pattern, an_event}
-use Rattle.rows.specs.Rows.{rows, in_order, all_rows}
-use Rattle.rows.specs.Known.{heard_to, known_rows, too_late, held, numbers, newly, counted_after, counted, with_number}
+use Rattle.rows.specs.Rows.{all_rows}
+use Rattle.rows.specs.Known.{heard_to, known_rows, too_late, numbers, newly, with_number}
 use Rattle.rows.specs.Laws.{KnownStays}
 use Rattle.rows.proofs.Known.{known_stays_proof}
 use Rattle.rows.proofs.Newly.{all_split}
-use Rattle.listener.specs.Engine.{ToldIt, begins, ends, next, Act, tells, waits, late, over, refused, Stepped, Engine, Ran, ran, one_act, runs}
-use Rattle.listener.specs.Promise.{said}
-use Rattle.listener.specs.Machine.{own}
-use Rattle.listener.specs.Story.{Heard}
-use Rattle.listener.proofs.Runs.{Telling, tell_all, end_of, Ends, most, left_over}
+use Rattle.listener.specs.Engine.{ToldIt, next, Act, tells, waits, late, over, refused, Engine, Ran, one_act, runs}
+use Rattle.listener.proofs.Runs.{Telling, tell_all, end_of, Ends, left_over}
 use Rattle.listener.proofs.Holding.{Numbered, numbered_more}
-use Rattle.listener.proofs.Waiting.{Waits}
 
 -- more acts than it took change nothing
 act_stays :

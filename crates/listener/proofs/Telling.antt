@@ -1,22 +1,20 @@
 -- All events one after the other: what was told is what is known, and the memory holds just what could matter.
-use Rattle.std.proofs.Common.{◌≡◌, ℕ, suc, ◌+◌, ◌<◌, ◌≤◌, Bool, true, false, ◌&&◌, ltb, leb, List, [], ◌∷◌, ◌++◌, length, sym, refl, ap, ◌∙◌, subst, append_assoc, append-nil, arith, lt-ltb}
+use Rattle.std.proofs.Common.{◌≡◌, ℕ, suc, ◌+◌, ◌<◌, ◌≤◌, Bool, true, false, leb, List, [], ◌∷◌, ◌++◌, length, sym, refl, ap, ◌∙◌, subst, append_assoc, append-nil, arith, lt-ltb}
 use Rattle.std.proofs.lemmas.Bool.{and_parts}
 use Rattle.timeline.specs.declared.events.Event.{Event}
 use Rattle.timeline.specs.Lists.{pick, every, each, those, flat}
 use Rattle.timeline.specs.Order.{sorted, last_of}
-use Rattle.timeline.specs.Ring.{capacity}
-use Rattle.timeline.proofs.Lists.{clash}
 use Rattle.patterns.specs.Patterns.{Step, Pattern}
 use Rattle.patterns.specs.Limits.{a_pattern, an_event}
 use Rattle.patterns.specs.Kept.{pattern_cells}
-use Rattle.rows.specs.Rows.{rows, in_order, all_rows}
+use Rattle.rows.specs.Rows.{rows, in_order}
 use Rattle.rows.specs.Known.{heard_to, known_rows, too_late, held, numbers, newly, counted_after, counted, with_number}
 use Rattle.listener.specs.Engine.{begins, ends, waits, late, over, refused, runs}
 use Rattle.listener.specs.Promise.{said}
 use Rattle.listener.specs.Machine.{own}
 use Rattle.listener.specs.Holding.{waiting_memory}
 use Rattle.listener.specs.Story.{Heard, Listened, ToldWhatIsKnown, ToldAll, HoldsJust, FullExactly}
-use Rattle.listener.proofs.Runs.{Telling, tell_all, most, left_over}
+use Rattle.listener.proofs.Runs.{tell_all, most, left_over}
 use Rattle.listener.proofs.Stories.{ran_as, known_more, known_then_left}
 use Rattle.listener.proofs.Tells.{KeptAs}
 use Rattle.listener.proofs.Waiting.{Waits, too_late_waits, room_test, room_is, full, counts, ends_over}

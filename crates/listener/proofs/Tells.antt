@@ -1,5 +1,5 @@
 -- A telling, row by row: from a cursor the listener tells all rows that are still to come, one an act, and then settles.
-use Rattle.std.proofs.Common.{◌≡◌, ℕ, zero, suc, ◌+◌, ◌-◌, ◌<◌, ◌≤◌, Bool, true, false, ◌&&◌, List, [], ◌∷◌, ◌++◌, length, get_or, take, drop, Some, None, Option, sym, refl, ap, ◌∙◌, subst, ap₂, arith}
+use Rattle.std.proofs.Common.{◌≡◌, ℕ, suc, ◌-◌, ◌≤◌, Bool, true, false, List, [], ◌∷◌, length, take, drop, Some, None, Option, sym, refl, ap, ◌∙◌, subst, ap₂, arith}
 use Rattle.std.proofs.lemmas.List.{length-append, length-take, length-drop}
 use Rattle.timeline.specs.declared.events.Event.{Event}
 use Rattle.timeline.specs.Lists.{pick, each}
@@ -9,7 +9,7 @@ use Rattle.patterns.specs.Patterns.{Pattern}
 use Rattle.patterns.specs.Kept.{kept_pattern, kept_count}
 use Rattle.rows.specs.Known.{numbers}
 use Rattle.rows.specs.Search.{forward}
-use Rattle.rows.specs.Finding.{six, row_of, to_come, placed, behind, found_first, next_found}
+use Rattle.rows.specs.Finding.{six, row_of, to_come, placed, found_first, next_found}
 use Rattle.rows.specs.SearchLaws.{Goes_on, IsOver}
 use Rattle.rows.proofs.Chosen.{length_forward}
 use Rattle.rows.proofs.Resuming.{goes_on_proof, is_over_proof}
@@ -17,7 +17,7 @@ use Rattle.rows.specs.declared.search.Cursor.{Cursor}
 use Rattle.rows.specs.declared.search.Found.{Found}
 use Rattle.listener.specs.declared.head.Phase.{Phase}
 use Rattle.listener.specs.declared.head.Head.{Head}
-use Rattle.listener.specs.Engine.{next, Act, tells, Stepped}
+use Rattle.listener.specs.Engine.{next, tells, Stepped}
 use Rattle.listener.specs.Machine.{memory_of, with_places, cursor_of, act_after, settled, told_or_settled, tell_from, own}
 use Rattle.listener.proofs.Runs.{Telling}
 use Rattle.listener.proofs.Steps.{Sound}

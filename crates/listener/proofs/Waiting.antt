@@ -1,11 +1,11 @@
 -- The listener while it waits: its memory is that of what came, and each event, and the end, leads on from one such memory as it should.
-use Rattle.std.proofs.Common.{◌≡◌, ℕ, suc, ◌+◌, ◌-◌, ◌%◌, ◌<◌, ◌≤◌, Bool, true, false, not, ◌&&◌, ltb, leb, ◌⊎◌, List, [], ◌∷◌, ◌++◌, length, sym, refl, ap, ◌∙◌, subst, ap₂, inl, inr, add-one, arith}
+use Rattle.std.proofs.Common.{◌≡◌, ℕ, suc, ◌+◌, ◌-◌, ◌%◌, ◌<◌, ◌≤◌, Bool, true, false, ltb, ◌⊎◌, List, [], ◌∷◌, ◌++◌, length, sym, refl, ap, ◌∙◌, subst, ap₂, inl, inr, add-one, arith}
 use Rattle.std.proofs.lemmas.Bool.{ltb-true, ltb-false, and_parts}
 use Rattle.std.proofs.lemmas.Bool.Decides.{nat_tests as by_tests}
 use Rattle.timeline.specs.declared.events.Event.{Event}
 use Rattle.timeline.specs.Lists.{pick, those, each}
-use Rattle.timeline.specs.Order.{before, sorted, nth, last_of, latest, each_heard}
-use Rattle.timeline.specs.Ring.{capacity, ring_long, events, laid}
+use Rattle.timeline.specs.Order.{before, nth, latest}
+use Rattle.timeline.specs.Ring.{capacity, events, laid}
 use Rattle.timeline.proofs.Sorting.{Ord}
 use Rattle.timeline.proofs.Order.{sorted_ord, length_sorted, latest_snoc}
 use Rattle.timeline.proofs.Laid.{laid_long, events_of_laid}
@@ -15,12 +15,12 @@ use Rattle.patterns.specs.Kept.{pattern_cells}
 use Rattle.rows.specs.Known.{heard_to, too_late, held, is_held, numbers, newly, with_number}
 use Rattle.rows.specs.Newly.{EndsHeld}
 use Rattle.rows.specs.Finding.{placed, to_come}
-use Rattle.rows.specs.SearchLaws.{begin_at, same, Just}
+use Rattle.rows.specs.SearchLaws.{begin_at, Just}
 use Rattle.rows.proofs.Newly.{ends_held}
 use Rattle.rows.proofs.AllFound.{rest_told}
 use Rattle.listener.specs.declared.head.Phase.TheVariants.{Waiting, Telling, Ending}
 use Rattle.listener.specs.declared.head.Head.{Head}
-use Rattle.listener.specs.Engine.{Act, waits, late, over, refused, Stepped, ends}
+use Rattle.listener.specs.Engine.{waits, late, over, refused, Stepped, ends}
 use Rattle.listener.specs.Promise.{said}
 use Rattle.listener.specs.Machine.{room, no_places, a_head, below_run, stale_with, tell_from, memory_of, settled, counted_head, ending_head, heard, own}
 use Rattle.listener.specs.Holding.{held_list, waiting_head, zero_ring, waiting_memory}
@@ -28,7 +28,7 @@ use Rattle.listener.proofs.Runs.{Telling as TellsThen, Good, most, left_over}
 use Rattle.listener.proofs.Steps.{Sound, comes_waiting, ends_waiting, next_telling, next_ending}
 use Rattle.listener.proofs.Tells.{KeptAs, told, tells_all}
 use Rattle.listener.proofs.Fronts.{front_passes, back_fails, time_lower, below_run_is, below_run_most}
-use Rattle.listener.proofs.Holding.{Numbered, numbered_later, numbered_more, heard_those, new, with_came, held_is}
+use Rattle.listener.proofs.Holding.{Numbered, numbered_later, numbered_more, heard_those, with_came, held_is}
 use Rattle.listener.proofs.Hearing.{heard_late, heard_full, heard_counts}
 use Rattle.listener.proofs.Counts.{zero_long, listed_back, stale, stale_same, telling, telling_is, ring_is}
 use Rattle.listener.proofs.Counted.{same_time, placed_first, told_is, settled_is, placed_is, sound_telling}

@@ -1,22 +1,22 @@
 -- The whole promise: from the first zeros on, every pattern is listened for rightly, and what is none is refused.
-use Rattle.std.proofs.Common.{◌≡◌, ℕ, suc, ◌+◌, ◌<◌, ◌≤◌, Bool, true, false, ◌&&◌, leb, List, [], ◌∷◌, ◌++◌, length, get_or, drop, replicate, Some, sym, refl, ap, ◌∙◌, subst, arith}
+use Rattle.std.proofs.Common.{◌≡◌, ℕ, ◌≤◌, true, false, ◌&&◌, leb, List, [], length, replicate, Some, sym, refl, ap, ◌∙◌, arith}
 use Rattle.std.proofs.lemmas.List.{length-replicate, drop-replicate}
 use Rattle.std.proofs.lemmas.Bool.{and_parts, leb-true}
 use Rattle.timeline.specs.declared.events.Event.{Event}
 use Rattle.timeline.specs.Lists.{pick, every, those}
 use Rattle.timeline.specs.Order.{sorted, latest, each_heard}
-use Rattle.timeline.specs.Ring.{ring_long, laid}
+use Rattle.timeline.specs.Ring.{laid}
 use Rattle.patterns.specs.Patterns.{Pattern}
-use Rattle.patterns.specs.Limits.{a_pattern, an_event, some_steps}
-use Rattle.patterns.specs.Kept.{pattern_cells, kept_pattern, kept_count}
+use Rattle.patterns.specs.Limits.{a_pattern, an_event}
+use Rattle.patterns.specs.Kept.{pattern_cells}
 use Rattle.patterns.proofs.Back.{reads_back}
 use Rattle.patterns.proofs.Steps.{steps_long}
 use Rattle.patterns.proofs.Words.{pattern_cells_long}
 use Rattle.listener.specs.declared.head.Phase.TheVariants.{New, Waiting}
-use Rattle.listener.specs.Engine.{begins, waits, refused, Stepped, Engine, runs}
-use Rattle.listener.specs.Promise.{Steady, Right, Whole}
+use Rattle.listener.specs.Engine.{begins, waits, refused, Stepped, runs}
+use Rattle.listener.specs.Promise.{Right, Whole}
 use Rattle.listener.specs.Machine.{memory_long, memory_of, head_at, blank, stepped, ring_of, below_run, begun, machine, own}
-use Rattle.listener.specs.Holding.{held_list, zero_ring, waiting_memory}
+use Rattle.listener.specs.Holding.{held_list, waiting_memory}
 use Rattle.listener.proofs.Runs.{Telling, tell_all, right, most}
 use Rattle.listener.proofs.Steps.{own_is}
 use Rattle.listener.proofs.Tells.{KeptAs}

@@ -1,6 +1,6 @@
 -- The memory taken apart and put together: what is written is what is read.
-use Rattle.std.proofs.Common.{◌≡◌, ℕ, suc, ◌+◌, ◌<◌, ◌≤◌, Bool, true, false, ◌&&◌, eqb, ltb, leb, List, [], ◌∷◌, ◌++◌, length, get_or, take, drop, Some, None, Option, sym, refl, ap, ◌∙◌, ap₂, arith}
-use Rattle.std.proofs.lemmas.List.{append-nil, drop-append-le, take-append-le, drop-take, length-take, length-take-le, drop_all, take_all, length-drop, drop_at, take_at, length-append, get_or_append_left, take-append-drop, append_assoc, drop-drop}
+use Rattle.std.proofs.Common.{◌≡◌, ℕ, ◌+◌, true, ◌&&◌, eqb, List, [], ◌∷◌, ◌++◌, length, get_or, take, drop, Some, None, sym, refl, ap, ◌∙◌, ap₂, arith}
+use Rattle.std.proofs.lemmas.List.{append-nil, drop-append-le, take-append-le, drop-take, length-take, length-take-le, drop_all, take_all, length-drop, drop_at, take_at, length-append, take-append-drop, append_assoc, drop-drop}
 use Rattle.std.proofs.lemmas.List.Edits.{sets-eq}
 use lib.Seq.{sets}
 use borrow.Rule.Slice.PartMut.{put_mid}

@@ -1,4 +1,4 @@
-use Rattle.std.proofs.Common.{◌≡◌, ℕ, List, length, take, drop, sym, ap, ◌∙◌, ap₂, arith}
+use Rattle.std.proofs.Common.{ℕ, List, length, take, drop, ap, ◌∙◌, ap₂, arith}
 use Rattle.patterns.specs.Numbers.{pattern_in}
 use Rattle.patterns.proofs.Words.{pattern_cells_long}
 use Rattle.listener.specs.declared.head.Phase.TheVariants.{Waiting}

@@ -1,4 +1,4 @@
-use Rattle.std.proofs.Common.{◌≡◌, ℕ, true, false, List, get_or, sym, ap, ◌∙◌, subst}
+use Rattle.std.proofs.Common.{get_or, sym}
 use Rattle.listener.specs.declared.head.Turn.TheVariants.{Late, Full, Counts}
 use Rattle.listener.proofs.Saying.{came_out, told_misfit, told_heard, late_done, full_done}
 use Rattle.listener.proofs.entry.come.Goals as goal

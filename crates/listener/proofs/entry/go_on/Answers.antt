@@ -1,4 +1,4 @@
-use Rattle.std.proofs.Common.{◌≡◌, subst}
+use Rattle.std.proofs.Common.{subst}
 use Rattle.rows.specs.declared.search.Cursor.{Cursor}
 use Rattle.listener.specs.declared.head.Phase.TheVariants.{Telling, Ending}
 use Rattle.listener.specs.Machine.{cells_of, ring_of, tell_from}

@@ -1,4 +1,4 @@
-use Rattle.std.proofs.Common.{◌≡◌, ℕ, List, ◌++◌, take, ap, ◌∙◌, ap₂}
+use Rattle.std.proofs.Common.{ℕ, List, ◌++◌, take, ap, ◌∙◌, ap₂}
 use Rattle.timeline.specs.Ring.{with_put}
 use Rattle.listener.specs.Machine.{ring_of}
 use Rattle.listener.proofs.Words.{ring_lent, ring_given}

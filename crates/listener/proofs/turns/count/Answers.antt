@@ -1,4 +1,4 @@
-use Rattle.std.proofs.Common.{◌≡◌, List, ap, ◌∙◌, subst}
+use Rattle.std.proofs.Common.{List, ap, ◌∙◌, subst}
 use Rattle.patterns.specs.Kept.{kept_pattern}
 use Rattle.listener.specs.Engine.{Stepped}
 use Rattle.listener.specs.Entry.{Did}

@@ -7,7 +7,7 @@ use Rattle.patterns.specs.Patterns.{Pattern, named}
 use Rattle.patterns.specs.Kept.{kept_pattern}
 use Rattle.listener.specs.declared.head.Head.{Head}
 use Rattle.listener.specs.declared.head.Turn.TheVariants.{Counts}
-use Rattle.listener.specs.Machine.{room, Bounded, Ready, cells_of, ring_of, below_run, latest_with, stale_with, counting}
+use Rattle.listener.specs.Machine.{Bounded, Ready, cells_of, ring_of, below_run, latest_with, stale_with, counting}
 use Rattle.listener.proofs.Doing.{hears_late, hears_full, hears_counts}
 use Rattle.listener.proofs.turns.hear.Goals as goal
 

@@ -1,10 +1,10 @@
-use Rattle.std.proofs.Common.{◌≡◌, ℕ, List, ap, ◌∙◌, ap₂}
+use Rattle.std.proofs.Common.{ℕ, List, ap, ◌∙◌, ap₂}
 use Rattle.timeline.specs.declared.events.Event.{Event}
 use Rattle.timeline.specs.Ring.{events}
 use Rattle.timeline.specs.Held.{held_in}
 use Rattle.patterns.specs.Kept.{kept_pattern}
 use Rattle.rows.specs.Finding.{next_found}
-use Rattle.listener.specs.Machine.{cells_of, ring_of}
+use Rattle.listener.specs.Machine.{ring_of}
 use Rattle.listener.proofs.Words.{ring_lent}
 use Rattle.listener.proofs.turns.next_in.Goals as goal
 

@@ -1,4 +1,4 @@
-use Rattle.std.proofs.Common.{◌≡◌, Bool, ◌++◌, take, sym, ap, ◌∙◌}
+use Rattle.std.proofs.Common.{Bool, ◌++◌, take, sym, ap, ◌∙◌}
 use Rattle.std.proofs.lemmas.List.{take-append-drop}
 use Rattle.listener.specs.Machine.{ring_of, ring_with, len_with}
 use Rattle.listener.proofs.turns.take_in.Goals as goal

@@ -1,4 +1,4 @@
-use Rattle.std.proofs.Common.{◌≡◌, ℕ, List, ap, ◌∙◌, arith}
+use Rattle.std.proofs.Common.{ap, ◌∙◌, arith}
 use Rattle.patterns.specs.Kept.{kept_count}
 use Rattle.listener.specs.Machine.{cells_of, ring_of}
 use Rattle.listener.proofs.Doing.{tells_none, tells_row}

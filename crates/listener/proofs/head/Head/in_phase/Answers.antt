@@ -1,6 +1,5 @@
-use Rattle.std.proofs.Common.{◌≡◌, Bool, true, false, ◌&&◌, eqb, get_or, Some, None, sym, ap, ◌∙◌, ap₂, arith}
-use Rattle.std.proofs.lemmas.Bool.{eq-eqb, ne_eqb, and_from, and_left, and_right}
-use Rattle.timeline.specs.Lists.{pick}
+use Rattle.std.proofs.Common.{◌≡◌, true, false, ◌&&◌, eqb, get_or, Some, sym, ap, ◌∙◌}
+use Rattle.std.proofs.lemmas.Bool.{eq-eqb, ne_eqb, and_left, and_right}
 use Rattle.listener.specs.Machine.{head_at, head_of, a_head, phase_number}
 use Rattle.listener.proofs.SmallHeads.{bounds}
 use Rattle.listener.proofs.head.Head.in_phase.Goals as goal

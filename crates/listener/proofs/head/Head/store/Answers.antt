@@ -1,4 +1,4 @@
-use Rattle.std.proofs.Common.{◌≡◌, ℕ, List, ◌∷◌, ◌++◌, sym, ap, ◌∙◌, arith}
+use Rattle.std.proofs.Common.{ℕ, ◌∷◌, ◌++◌, ap, ◌∙◌, arith}
 use Rattle.listener.specs.Machine.{head_words, cells_of, ring_of}
 use Rattle.listener.proofs.Words.{stored}
 use Rattle.listener.proofs.head.Head.store.Goals as goal
