@@ -4,6 +4,7 @@
 use files::{Failed, PatternSource, line, read_file};
 use rows::{FindError, find_counted};
 use std::env;
+use std::process::ExitCode;
 use timeline::Event;
 
 // A line for each row.
@@ -52,10 +53,14 @@ fn run_on_arguments(rt: &HostRuntime) -> Result<(), Failed> {
     Err(Failed::Said)
 }
 
-fn main(rt: HostRuntime) -> Result<(), Failed> {
-    let ended = run_on_arguments(&rt);
-    if let Err(Failed::Memory) = ended {
-        eprintln!(rt; "batch: there is not enough memory")?;
+// What failed is said where it fails, but for want of memory.
+fn main(rt: HostRuntime) -> ExitCode {
+    match run_on_arguments(&rt) {
+        Ok(()) => ExitCode::SUCCESS,
+        Err(Failed::Memory) => {
+            let _ = eprintln!(rt; "batch: there is not enough memory");
+            ExitCode::FAILURE
+        }
+        Err(Failed::Said | Failed::Output) => ExitCode::FAILURE,
     }
-    ended
 }

@@ -1,7 +1,7 @@
 // A row of events while it is made longer step by step.
 ghost use Rattle.std.specs.Prelude.{◌≤◌};
 
-use crate::patterns::MOST_STEPS;
+use crate::shapes::MOST_STEPS;
 use timeline::Event;
 
 const NOTHING: Event = Event {

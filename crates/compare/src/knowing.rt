@@ -1,7 +1,7 @@
 // What is known when, as this program has it: after each event all rows of those that counted are looked for again from nothing.
 use crate::meaning::Fit;
-use crate::patterns::Pattern;
 use crate::said::{End, Row, Said};
+use crate::shapes::Pattern;
 use std::alloc::{AllocError, Global};
 use timeline::Event;
 

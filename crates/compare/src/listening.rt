@@ -1,6 +1,6 @@
 // The listener, told of one thing after the other.
-use crate::patterns::MOST_STEPS;
 use crate::said::{End, Row, Said, UNTOUCHED};
+use crate::shapes::MOST_STEPS;
 use listener::{MEMORY_LONG, Told, step};
 use std::alloc::{AllocError, Global};
 use timeline::Event;

@@ -9,9 +9,9 @@ mod knowing;
 mod listening;
 mod making;
 mod meaning;
-mod patterns;
 mod random;
 mod said;
+mod shapes;
 mod tally;
 mod world;
 
@@ -20,6 +20,7 @@ use files::Failed;
 use listening::Listening;
 use making::Case;
 use std::env;
+use std::process::ExitCode;
 use tally::Tally;
 
 // Which cases are gone through.
@@ -64,10 +65,14 @@ fn run_on_arguments(rt: &HostRuntime) -> Result<(), Failed> {
     Err(Failed::Said)
 }
 
-fn main(rt: HostRuntime) -> Result<(), Failed> {
-    let ended = run_on_arguments(&rt);
-    if let Err(Failed::Memory) = ended {
-        eprintln!(rt; "compare: there is not enough memory")?;
+// What failed is said where it fails, but for want of memory.
+fn main(rt: HostRuntime) -> ExitCode {
+    match run_on_arguments(&rt) {
+        Ok(()) => ExitCode::SUCCESS,
+        Err(Failed::Memory) => {
+            let _ = eprintln!(rt; "compare: there is not enough memory");
+            ExitCode::FAILURE
+        }
+        Err(Failed::Said | Failed::Output) => ExitCode::FAILURE,
     }
-    ended
 }

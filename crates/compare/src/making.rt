@@ -1,6 +1,6 @@
 // A case made of a seed and its number: a pattern's row of numbers, and events.
-use crate::patterns::{KINDS, NUMBERS, SPANS};
 use crate::random::Random;
+use crate::shapes::{KINDS, NUMBERS, SPANS};
 use crate::world::World;
 use std::alloc::{AllocError, Global};
 use timeline::Event;

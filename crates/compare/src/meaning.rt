@@ -1,6 +1,6 @@
 // Which rows fit a pattern among some events: the rules, read plainly and tried on every row that could be.
 use crate::growing::Growing;
-use crate::patterns::{Field, MOST_STEPS, Never, Other, Pattern, Sign, Step, Test};
+use crate::shapes::{Field, MOST_STEPS, Never, Other, Pattern, Sign, Step, Test};
 use std::alloc::{AllocError, Global};
 use timeline::Event;
 
@@ -170,7 +170,7 @@ impl Pattern {
                 fits.push(fit)?;
             }
         }
-        fits.sort();
+        fits.sort()?;
         Ok(fits)
     }
 }

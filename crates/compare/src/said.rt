@@ -1,6 +1,6 @@
 // What is said of one thing that the listener is told: rows, and how it ends.
 use crate::meaning::Fit;
-use crate::patterns::MOST_STEPS;
+use crate::shapes::MOST_STEPS;
 use std::alloc::Global;
 use std::fmt;
 

@@ -1,7 +1,7 @@
 // What happened in all cases, counted.
 use crate::making::{Case, Damage};
-use crate::patterns::MOST_STEPS;
 use crate::said::{End, Said};
+use crate::shapes::MOST_STEPS;
 use crate::world::Scale;
 use std::fmt;
 

@@ -20,6 +20,7 @@ use layout::WITHIN;
 use listener::MEMORY_LONG;
 use random::Random;
 use std::env;
+use std::process::ExitCode;
 use tally::Tally;
 use trying::{Stop, tried};
 
@@ -89,10 +90,14 @@ fn run_on_arguments(rt: &HostRuntime) -> Result<(), Failed> {
     Err(Failed::Said)
 }
 
-fn main(rt: HostRuntime) -> Result<(), Failed> {
-    let ended = run_on_arguments(&rt);
-    if let Err(Failed::Memory) = ended {
-        eprintln!(rt; "hostile: there is not enough memory")?;
+// What failed is said where it fails, but for want of memory.
+fn main(rt: HostRuntime) -> ExitCode {
+    match run_on_arguments(&rt) {
+        Ok(()) => ExitCode::SUCCESS,
+        Err(Failed::Memory) => {
+            let _ = eprintln!(rt; "hostile: there is not enough memory");
+            ExitCode::FAILURE
+        }
+        Err(Failed::Said | Failed::Output) => ExitCode::FAILURE,
     }
-    ended
 }

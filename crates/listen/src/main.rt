@@ -8,6 +8,7 @@ use files::{EVENT_BYTES, Failed, PatternSource};
 use listening::Listening;
 use source::Source;
 use std::env;
+use std::process::ExitCode;
 
 // So many bytes are read at once at most.
 const CHUNK: usize = 65536;
@@ -92,10 +93,14 @@ fn run_on_arguments(rt: &HostRuntime) -> Result<(), Failed> {
     Err(Failed::Said)
 }
 
-fn main(rt: HostRuntime) -> Result<(), Failed> {
-    let ended = run_on_arguments(&rt);
-    if let Err(Failed::Memory) = ended {
-        eprintln!(rt; "listen: there is not enough memory")?;
+// What failed is said where it fails, but for want of memory.
+fn main(rt: HostRuntime) -> ExitCode {
+    match run_on_arguments(&rt) {
+        Ok(()) => ExitCode::SUCCESS,
+        Err(Failed::Memory) => {
+            let _ = eprintln!(rt; "listen: there is not enough memory");
+            ExitCode::FAILURE
+        }
+        Err(Failed::Said | Failed::Output) => ExitCode::FAILURE,
     }
-    ended
 }

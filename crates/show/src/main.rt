@@ -6,6 +6,7 @@ mod tests;
 
 use files::{Failed, PatternSource};
 use std::env;
+use std::process::ExitCode;
 use syntax::{Unwritten, write};
 
 fn run(rt: &HostRuntime, pattern: &PatternSource) -> Result<(), Failed> {
@@ -33,10 +34,14 @@ fn run_on_arguments(rt: &HostRuntime) -> Result<(), Failed> {
     Err(Failed::Said)
 }
 
-fn main(rt: HostRuntime) -> Result<(), Failed> {
-    let ended = run_on_arguments(&rt);
-    if let Err(Failed::Memory) = ended {
-        eprintln!(rt; "show: there is not enough memory")?;
+// What failed is said where it fails, but for want of memory.
+fn main(rt: HostRuntime) -> ExitCode {
+    match run_on_arguments(&rt) {
+        Ok(()) => ExitCode::SUCCESS,
+        Err(Failed::Memory) => {
+            let _ = eprintln!(rt; "show: there is not enough memory");
+            ExitCode::FAILURE
+        }
+        Err(Failed::Said | Failed::Output) => ExitCode::FAILURE,
     }
-    ended
 }

@@ -1,5 +1,5 @@
 -- A step or a never that is whole goes on to a pattern.
-use Rattle.std.proofs.Common.{◌≡◌, ℕ, ◌+◌, ◌-◌, ◌<◌, Bool, true, false, ltb, List, [], ◌∷◌, ◌++◌, length, None, codes, refl, ◌∙◌, arith, length-append}
+use Rattle.std.proofs.Common.{◌≡◌, ℕ, ◌+◌, ◌<◌, Bool, true, false, ltb, List, [], ◌∷◌, ◌++◌, length, None, codes, refl, ◌∙◌, arith, length-append}
 use Rattle.std.proofs.lemmas.Bool.{lt-ltb}
 use Rattle.timeline.specs.Lists.{pick}
 use Rattle.patterns.specs.Patterns.{Pattern}
@@ -8,7 +8,6 @@ use Rattle.syntax.specs.declared.places.Slot.TheVariants.{StepKind, NeverKind, W
 use Rattle.syntax.specs.declared.places.Place.TheVariants.{Item, Number, StepName, NeverName, Named, Tested, LateWord, Whole}
 use Rattle.syntax.specs.declared.places.Stand.TheVariants.{At, Digits}
 use Rattle.syntax.specs.declared.places.Act.TheVariants.{End}
-use Rattle.syntax.specs.Words.{letter, digit}
 use Rattle.syntax.specs.Names.{step_named}
 use Rattle.syntax.specs.Rules.{goes}
 use Rattle.syntax.specs.Reading.{Built, State, means, with_never, with_step, with_act, runs}

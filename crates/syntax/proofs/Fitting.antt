@@ -1,5 +1,5 @@
 -- Every move of a reader is fine where it stands.
-use Rattle.std.proofs.Common.{◌≡◌, ℕ, ◌+◌, ◌-◌, ◌<◌, Bool, true, false, eqb, ltb, length, Some, refl, arith, lit<}
+use Rattle.std.proofs.Common.{◌≡◌, ℕ, ◌+◌, ◌<◌, Bool, true, false, eqb, ltb, length, Some, refl, arith, lit<}
 use Rattle.std.proofs.lemmas.Bool.{and_parts, and_from, lt-ltb, ltb-true}
 use Rattle.timeline.specs.Lists.{pick, every, none_of}
 use Rattle.patterns.specs.declared.fields.Field.{Field}

@@ -1,12 +1,12 @@
 -- A row of 405 numbers has room for every pattern, and what is read into it is copied whole.
-use Rattle.std.proofs.Common.{◌≡◌, ℕ, ◌≤◌, true, ◌&&◌, ltb, leb, List, length, take, drop, Ok, Err, vec_items, Result, sym, refl, ap, ◌∙◌, subst, arith}
+use Rattle.std.proofs.Common.{◌≡◌, ℕ, ◌≤◌, true, ◌&&◌, ltb, leb, List, length, take, drop, Ok, Err, vec_items, sym, refl, ap, ◌∙◌, subst, arith}
 use Rattle.std.specs.Global.{Vec}
 use Rattle.std.proofs.lemmas.List.{take_at}
 use Rattle.std.proofs.lemmas.Bool.{and_parts, leb-true}
 use Rattle.patterns.specs.Patterns.{Pattern}
 use Rattle.patterns.specs.Limits.{some_steps, a_pattern}
 use Rattle.syntax.specs.declared.refusals.Refusal.{Refusal}
-use Rattle.syntax.specs.declared.refusals.Refusal.TheVariants.{At, Short}
+use Rattle.syntax.specs.declared.refusals.Refusal.TheVariants.{Short}
 use Rattle.syntax.specs.Rows.{pattern_row}
 use Rattle.syntax.specs.Reading.{Reading, means, refused, reads}
 use Rattle.syntax.specs.Readers.{Answers}

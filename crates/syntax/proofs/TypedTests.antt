@@ -15,7 +15,7 @@ use Rattle.syntax.specs.declared.places.Slot.TheVariants.{Other}
 use Rattle.syntax.specs.declared.places.Part.TheVariants.{Own, OwnDot, What, How, Against, OtherDot, OtherField}
 use Rattle.syntax.specs.declared.places.Place.TheVariants.{Testing, Tested}
 use Rattle.syntax.specs.declared.places.Stand.TheVariants.{At}
-use Rattle.syntax.specs.Words.{white, digit, spelling}
+use Rattle.syntax.specs.Words.{digit, spelling}
 use Rattle.syntax.specs.Names.{step_named}
 use Rattle.syntax.specs.Rules.{goes}
 use Rattle.syntax.specs.Reading.{Built, State, runs}

@@ -1,4 +1,4 @@
-use Rattle.std.proofs.Common.{◌≡◌, true, ltb, length, codes, sym, ap₂}
+use Rattle.std.proofs.Common.{length, codes, sym, ap₂}
 use Rattle.std.proofs.lemmas.Bool.{lt-ltb}
 use Rattle.timeline.specs.Lists.{pick}
 use Rattle.files.proofs.complaining.cause.Goals as goal

@@ -1,4 +1,4 @@
-use Rattle.std.proofs.Common.{[], ◌∷◌, ◌++◌, map, get_or, take, vec_items, sym, ap, ◌∙◌, ap₂, append_assoc, append-nil}
+use Rattle.std.proofs.Common.{[], ◌∷◌, ◌++◌, map, get_or, take, vec_items, sym, ap, ◌∙◌, ap₂, append_assoc}
 use Rattle.std.proofs.lemmas.List.{map_more, take_all}
 use Rattle.files.specs.Complaints.{under_byte}
 use Rattle.files.proofs.complaining.put_under.Goals as goal

@@ -1,4 +1,4 @@
-use Rattle.std.proofs.Common.{true, eqb, sym, ap, ◌∙◌, zero-add, arith}
+use Rattle.std.proofs.Common.{zero-add, arith}
 use Rattle.std.proofs.lemmas.Bool.{eq-eqb, ne_eqb}
 use Rattle.files.specs.Lines.{line_rest}
 use Rattle.files.proofs.ByByte.{rest_next, rest_stop, rest_over}

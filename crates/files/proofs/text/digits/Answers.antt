@@ -1,5 +1,5 @@
 use Rattle.std.proofs.Common.{arith}
-use Rattle.files.proofs.Digits.{begins, not_first, goes_on, ends}
+use Rattle.files.proofs.Digits.{begins, goes_on, ends}
 use Rattle.files.proofs.text.digits.Goals as goal
 
 pub loop-rest-init : goal.loop-rest-init
