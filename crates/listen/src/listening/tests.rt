@@ -52,7 +52,7 @@ fn night(rt: HostRuntime) -> Result<(), Fail> {
     assert!(rt; listening.fault.is_none());
     let mut listening = heard(&rt, heap, &NIGHT, &bytes[..160])?;
     assert!(rt; listening.hear(&bytes[160..224]).is_ok());
-    assert!(rt; listening.text.as_slice() == b"late 4\n");
+    assert!(rt; listening.text.as_slice() == b"late 4\n".as_slice());
     assert!(rt; listening.finish().is_ok());
     assert!(rt; listening.text.as_slice() == SAID.as_bytes());
     assert_eq!(rt; listening.count, 7);
@@ -66,7 +66,7 @@ fn who(rt: HostRuntime) -> Result<(), Fail> {
     let bytes = bytes_of(heap, &[[100, 1, 7, 5], [101, 2, 8, 5], [102, 2, 7, 6]])?;
     let mut listening = heard(&rt, heap, &NIGHT, &bytes)?;
     assert!(rt; listening.finish().is_ok());
-    assert!(rt; listening.text.as_slice() == b"0 2\n");
+    assert!(rt; listening.text.as_slice() == b"0 2\n".as_slice());
     Ok(())
 }
 
@@ -95,11 +95,11 @@ fn refusals(rt: HostRuntime) -> Result<(), Fail> {
     let heap = rt.alloc();
     let mut listening = Listening::new(heap)?;
     assert!(rt; matches!(listening.begin(&[60, 20, 0]), Err(Failed::Said)));
-    assert!(rt; listening.text.as_slice() == b"refused 1\n");
+    assert!(rt; listening.text.as_slice() == b"refused 1\n".as_slice());
     let doors = bytes_of(heap, &[[100, 1, 7, 0]; 8192])?;
     let mut listening = heard(&rt, heap, &NIGHT, &doors)?;
     assert!(rt; listening.text.is_empty());
     assert!(rt; matches!(listening.hear(&doors[..32]), Err(Failed::Said)));
-    assert!(rt; listening.text.as_slice() == b"refused 8\n");
+    assert!(rt; listening.text.as_slice() == b"refused 8\n".as_slice());
     Ok(())
 }
