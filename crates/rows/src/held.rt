@@ -152,6 +152,7 @@ impl Held<'_> {
         requires { (from ≤ end) × (end ≤ how_many self.front.now self.back.now) }
         ensures bounds { (from ≤ result) × (result ≤ end) }
         ensures passed { (i : ℕ) → i < result → from ≤ i → ((nth (held self.entry.front.now self.entry.back.now) i).kind == kind) ≡ false }
+        ensures stops { result < end → OfNeither kind kind (nth (held self.entry.front.now self.entry.back.now) result) → ⊥ }
     {
         self.next_of_kinds(kind, kind, from, end)
     }
