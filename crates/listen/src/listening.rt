@@ -48,9 +48,19 @@ impl Listening {
         self.text.extend_from_slice(said.as_bytes())
     }
 
-    fn say_row(&mut self, row: &[u64]) -> Result<(), AllocError> {
+    fn push_row(&mut self, row: &[u64]) -> Result<(), AllocError> {
         push_line(&mut self.text, row)?;
         self.text.extend_from_slice(b"\n")
+    }
+
+    // The whole row, or nothing of it where memory is wanting.
+    fn say_row(&mut self, row: &[u64]) -> Result<(), AllocError> {
+        let before = self.text.len();
+        let said = self.push_row(row);
+        if said.is_err() {
+            self.text.truncate(before);
+        }
+        said
     }
 
     // One act of the listener, and what it says then: whether it has to go on.

@@ -4,7 +4,7 @@ ghost use Rattle.std.specs.Prelude.{◌≡◌, [], IfOk};
 ghost use Rattle.timeline.specs.Lists.{each};
 ghost use Rattle.patterns.specs.Kept.{kept_pattern};
 ghost use Rattle.rows.specs.Rows.{rows as rows_of, all_rows};
-ghost use Rattle.rows.specs.Known.{numbers as NumbersOf, counted as CountedOf};
+ghost use Rattle.rows.specs.Known.{numbers as numbers_of, counted as counted_of};
 ghost use Rattle.patterns.specs.Numbers.{pattern_in};
 ghost use Rattle.rows.specs.Finder.{lists, Finds};
 ghost use Rattle.rows.specs.declared.finder.FindError.TheVariants.{Memory};
@@ -47,7 +47,7 @@ fn rows_among(heap: Global, pattern: Kept<'_>, all: &[Event]) -> Result<Vec<Vec<
 
 // A row by its events' numbers.
 fn numbers(heap: Global, row: &[Event]) -> Result<Vec<u64>, AllocError>
-    ensures { IfOk result (λ v. v.items ≡ NumbersOf row.now) }
+    ensures { IfOk result (λ v. v.items ≡ numbers_of row.now) }
 {
     let mut heard = Vec::new(heap);
     for e in row {
@@ -58,7 +58,7 @@ fn numbers(heap: Global, row: &[Event]) -> Result<Vec<u64>, AllocError>
 
 // Rows by their events' numbers.
 fn all_numbers(heap: Global, rows: &[Vec<Event>]) -> Result<Vec<Vec<u64>>, AllocError>
-    ensures { IfOk result (λ v. lists v.items ≡ each NumbersOf (lists rows.now)) }
+    ensures { IfOk result (λ v. lists v.items ≡ each numbers_of (lists rows.now)) }
 {
     let mut all = Vec::new(heap);
     for row in rows {
@@ -68,7 +68,7 @@ fn all_numbers(heap: Global, rows: &[Vec<Event>]) -> Result<Vec<Vec<u64>>, Alloc
 }
 
 fn find_kept(heap: Global, pattern: Kept<'_>, events: &[Event]) -> Result<Vec<Vec<u64>>, AllocError>
-    ensures { IfOk result (λ v. lists v.items ≡ each NumbersOf (all_rows (kept_pattern pattern.entry.words.now) events.now)) }
+    ensures { IfOk result (λ v. lists v.items ≡ each numbers_of (all_rows (kept_pattern pattern.entry.words.now) events.now)) }
 {
     let all = sorted(heap, events)?;
     let rows = rows_among(heap, pattern, &all)?;
@@ -90,7 +90,7 @@ pub fn find_all(heap: Global, row: &[u64], events: &[Event]) -> Result<Vec<Vec<u
 
 // The same among those of some events, as they came, that count: all that aren't too late for the pattern. Their numbers are from 0.
 pub fn find_counted(heap: Global, row: &[u64], events: &[Event]) -> Result<Vec<Vec<u64>>, FindError>
-    ensures { Finds row.now (CountedOf (pattern_in row.now) events.now) result }
+    ensures { Finds row.now (counted_of (pattern_in row.now) events.now) result }
 {
     let mut words = [0; PATTERN_WORDS];
     let Ok(()) = keep(row, &mut words) else {
