@@ -39,13 +39,15 @@ def is_made(line):
 
 
 def is_ours(name):
+    if name[:1].isupper() and "_" in name:
+        return True
     return ("-" in name or "′" in name) and re.search(r"[A-Za-z]", name) is not None
 
 
 def respelled(name):
     name = name.replace("′", "'")
     if name[0].isupper():
-        return "".join(part[:1].upper() + part[1:] for part in name.split("-"))
+        return "".join(part[:1].upper() + part[1:] for part in re.split("[-_]", name))
     return name.replace("-", "_")
 
 

@@ -8,7 +8,7 @@ use Rattle.timeline.specs.Lists.{pick}
 use Rattle.patterns.specs.Patterns.{Pattern}
 use Rattle.rows.specs.Search.{forward}
 use Rattle.rows.specs.Finding.{to_come, placed, behind, found_first, next_found}
-use Rattle.rows.specs.SearchLaws.{Goes_on}
+use Rattle.rows.specs.SearchLaws.{GoesOn}
 use Rattle.rows.specs.declared.search.Cursor.{Cursor}
 use Rattle.rows.specs.declared.search.Found.{Found}
 use Rattle.rows.proofs.Chosen.{length_forward, Placed, placed_parts}
@@ -63,7 +63,7 @@ module _ (h : List Event) (p : Pattern) (upto : ℕ) (c : Cursor) (f : Found) (f
       ]
 
   pub places_small : Small upto → Smalls c.at → Smalls f.next.at
-  unfolding Goes_on next_found
+  unfolding GoesOn next_found
   places_small u a =
       let g = goes_on_proof h p upto c f found in
       let is = first_behind (placed (length h) upto (length p.steps) c) g.0 (to_come h p upto f.next) (to_come h p upto c) g.1 found in

@@ -10,7 +10,7 @@ use Rattle.patterns.specs.Kept.{kept_pattern, kept_count}
 use Rattle.rows.specs.Known.{numbers}
 use Rattle.rows.specs.Search.{forward}
 use Rattle.rows.specs.Finding.{six, row_of, to_come, placed, found_first, next_found}
-use Rattle.rows.specs.SearchLaws.{Goes_on, IsOver}
+use Rattle.rows.specs.SearchLaws.{GoesOn, IsOver}
 use Rattle.rows.proofs.Chosen.{length_forward}
 use Rattle.rows.proofs.Resuming.{goes_on_proof, is_over_proof}
 use Rattle.rows.specs.declared.search.Cursor.{Cursor}
@@ -89,7 +89,7 @@ module _ (p : Pattern) (cells ring : List ℕ) (kept : KeptAs cells p) (ph : Pha
       → next_found (events ring h.start h.len) p h.upto c ≡ Some f
       → D (settled ph h cells ring).memory
       → Telling own D (act_after ph) (told_or_settled ph h cells ring (Some f)) (told (events ring h.start h.len) (r ∷ rs))
-  unfolding each Goes_on IsOver
+  unfolding each GoesOn IsOver
   one_more D r rs h c f ih s six-long coming e d =
       let H : List Event = events ring h.start h.len in
       let g = goes_on_proof H p h.upto c f e in
@@ -116,7 +116,7 @@ module _ (p : Pattern) (cells ring : List ℕ) (kept : KeptAs cells p) (ph : Pha
       → next_found (events ring h.start h.len) p h.upto c ≡ o
       → D (settled ph h cells ring).memory
       → Telling own D (act_after ph) (told_or_settled ph h cells ring o) (told (events ring h.start h.len) rs)
-  unfolding each Goes_on IsOver
+  unfolding each GoesOn IsOver
   by_found D [] h c None ih s z coming at_place e d = (refl, d)
   by_found D (r ∷ rs) h c None ih s z coming at_place e d =
       let none = is_over_proof (events ring h.start h.len) p h.upto c at_place e in

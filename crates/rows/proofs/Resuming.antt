@@ -8,7 +8,7 @@ use Rattle.patterns.specs.Patterns.{Pattern}
 use Rattle.rows.specs.Known.{numbers}
 use Rattle.rows.specs.Search.{rest, chosen, forward}
 use Rattle.rows.specs.Finding.{space, to_come, row_of, six, behind, found_first, placed, next_found}
-use Rattle.rows.specs.SearchLaws.{Goes_on, IsOver}
+use Rattle.rows.specs.SearchLaws.{GoesOn, IsOver}
 use Rattle.rows.specs.declared.search.Cursor.{Cursor}
 use Rattle.rows.specs.declared.search.Found.{Found}
 use Rattle.rows.proofs.Following.{AllBelow, rest_follows, rest_long}
@@ -105,8 +105,8 @@ first_said h p upto c w path more q =
       next_placed h p upto k steps c.at path len (length h) (omega (arith, w.few)) w.short f.0,
     )
 
-pub goes_on_proof : Goes_on
-unfolding Goes_on next_found found_first
+pub goes_on_proof : GoesOn
+unfolding GoesOn next_found found_first
 goes_on_proof h p upto c f e = go (placed (length h) upto (length p.steps) c) refl e
   where
     first : Placed (length h) upto (length p.steps) c → (rs : List (List ℕ)) → to_come h p upto c ≡ rs → found_first h p c rs ≡ Some f → Said h p upto c f

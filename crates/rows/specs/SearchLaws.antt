@@ -58,8 +58,8 @@ RestIs =
     Just (sorted es) q a b → each (row_of (sorted es)) (to_come (sorted es) p b (begin_at a)) ≡ those (λ r. q (last_of r)) (all_rows p es)
 
 -- when a row was told, it was the first to come, and the others are to come after the new cursor; the search can be there
-unfoldable pub Goes_on : Type 0
-Goes_on =
+unfoldable pub GoesOn : Type 0
+GoesOn =
     (h : List Event) (p : Pattern) (upto : ℕ) (c : Cursor) (f : Found) → next_found h p upto c ≡ Some f →
     (path : List ℕ)
     × (to_come h p upto c ≡ path ∷ to_come h p upto f.next)

@@ -1,5 +1,5 @@
 // What the search is worth: laws that these functions owe.
-ghost use Rattle.rows.specs.SearchLaws.{RowsOfOne, RowsInOrder, RestIs, Goes_on, IsOver};
+ghost use Rattle.rows.specs.SearchLaws.{RowsOfOne, RowsInOrder, RestIs, GoesOn, IsOver};
 
 // The rows found of one last event are the definition's that end with it.
 pub fn rows_of_one() -> u8
@@ -24,7 +24,7 @@ pub fn rest_is() -> u8
 
 // After a row was told, the others are to come.
 pub fn goes_on() -> u8
-    ensures { Goes_on }
+    ensures { GoesOn }
 {
     0
 }

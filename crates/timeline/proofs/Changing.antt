@@ -22,19 +22,19 @@ zeros_long : length zeros ≡ ring_long
 zeros_long = length-replicate {A = ℕ} ring_long 0
 
 -- these events, in order, laid into zeros
-record Laid_out (es : List Event) (r : Standing) : Type 0 where
+record LaidOut (es : List Event) (r : Standing) : Type 0 where
   pub whole : r.ring ≡ laid zeros r.start es
   pub len : r.len ≡ length es
   pub bound : length es ≤ capacity
   pub ordered : Ordered es
 
-list_of : (es : List Event) (r : Standing) → Laid_out es r → events r.ring r.start r.len ≡ es
+list_of : (es : List Event) (r : Standing) → LaidOut es r → events r.ring r.start r.len ≡ es
 list_of es r o =
     ap (λ (t : List ℕ). events t r.start r.len) o.whole
     ∙ ap (λ (t : ℕ). events (laid zeros r.start es) r.start t) o.len
     ∙ events_of_laid zeros r.start es zeros_long o.bound
 
-holds_from : (es : List Event) (r : Standing) → Laid_out es r → Holds es r
+holds_from : (es : List Event) (r : Standing) → LaidOut es r → Holds es r
 holds_from es r o =
     record {
       len = o.len;
@@ -54,8 +54,8 @@ length_put e [] = refl
 length_put e (f ∷ fs) = let ih = length_put e fs in grind arith
 
 -- one put in
-step_puts : (e : Event) (es : List Event) (r : Standing) → Laid_out es r → r.len < capacity
-    → Laid_out (put e es) (record { ring = with_put r.ring r.start r.len e; start = r.start; len = r.len + 1 })
+step_puts : (e : Event) (es : List Event) (r : Standing) → LaidOut es r → r.len < capacity
+    → LaidOut (put e es) (record { ring = with_put r.ring r.start r.len e; start = r.start; len = r.len + 1 })
 step_puts e es r o h =
     let s = r.start in
     let l = length_put e es in
@@ -71,8 +71,8 @@ step_puts e es r o h =
     }
 
 -- n forgotten
-step_forgets : (n : ℕ) (es : List Event) (r : Standing) → Laid_out es r → n ≤ r.len
-    → Laid_out (drop n es) (record { ring = with_forgotten r.ring r.start n; start = (r.start + n) % capacity; len = r.len - n })
+step_forgets : (n : ℕ) (es : List Event) (r : Standing) → LaidOut es r → n ≤ r.len
+    → LaidOut (drop n es) (record { ring = with_forgotten r.ring r.start n; start = (r.start + n) % capacity; len = r.len - n })
 step_forgets n es r o h =
     let l = length-drop n es in
     record {
@@ -82,7 +82,7 @@ step_forgets n es r o h =
       ordered = drop_ordered n es o.ordered;
     }
 
-go_on : (cs : List Change) (es : List Event) (r : Standing) → Laid_out es r → fit r.len cs ≡ true → Laid_out (changed es cs) (changed_ring r cs)
+go_on : (cs : List Change) (es : List Event) (r : Standing) → LaidOut es r → fit r.len cs ≡ true → LaidOut (changed es cs) (changed_ring r cs)
 unfolding changed changed_ring fit
 go_on [] es r o f = o
 go_on (puts e ∷ cs) es r o f =
@@ -94,7 +94,7 @@ go_on (forgets n ∷ cs) es r o f =
     go_on cs (drop n es) (record { ring = with_forgotten r.ring r.start n; start = (r.start + n) % capacity; len = r.len - n })
     (step_forgets n es r o (leb-true n r.len p.0)) p.1
 
-none_laid : (start : ℕ) → Laid_out [] (empty_at start)
+none_laid : (start : ℕ) → LaidOut [] (empty_at start)
 unfolding laid Ordered
 none_laid start = record { whole = refl; len = refl; bound = omega arith; ordered = tt }
 
