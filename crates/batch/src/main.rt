@@ -1,7 +1,7 @@
 // batch [-t | -e] PATTERN EVENTS: all rows of a pattern among the events that count, found by looking through everything.
 #![tactic(auto)]
 
-use files::{Failed, PatternSource, line, read_file};
+use files::{Failed, PatternSource, ending, line, read_file};
 use rows::{FindError, find_counted};
 use std::env;
 use std::process::ExitCode;
@@ -53,14 +53,6 @@ fn run_on_arguments(rt: &HostRuntime) -> Result<(), Failed> {
     Err(Failed::Said)
 }
 
-// What failed is said where it fails, but for want of memory.
 fn main(rt: HostRuntime) -> ExitCode {
-    match run_on_arguments(&rt) {
-        Ok(()) => ExitCode::SUCCESS,
-        Err(Failed::Memory) => {
-            let _ = eprintln!(rt; "batch: there is not enough memory");
-            ExitCode::FAILURE
-        }
-        Err(Failed::Said | Failed::Output) => ExitCode::FAILURE,
-    }
+    ending(&rt, "batch", run_on_arguments(&rt))
 }

@@ -16,7 +16,7 @@ mod tally;
 mod world;
 
 use comparing::{Stop, compare};
-use files::Failed;
+use files::{Failed, ending};
 use listening::Listening;
 use making::Case;
 use std::env;
@@ -65,14 +65,6 @@ fn run_on_arguments(rt: &HostRuntime) -> Result<(), Failed> {
     Err(Failed::Said)
 }
 
-// What failed is said where it fails, but for want of memory.
 fn main(rt: HostRuntime) -> ExitCode {
-    match run_on_arguments(&rt) {
-        Ok(()) => ExitCode::SUCCESS,
-        Err(Failed::Memory) => {
-            let _ = eprintln!(rt; "compare: there is not enough memory");
-            ExitCode::FAILURE
-        }
-        Err(Failed::Said | Failed::Output) => ExitCode::FAILURE,
-    }
+    ending(&rt, "compare", run_on_arguments(&rt))
 }

@@ -1,5 +1,6 @@
-// Why a program ends with status 1, and the reading of a pattern's file.
-ghost use Rattle.std.specs.Prelude.{◌≡◌, IfErr};
+// Why a program ends with status 1, how it ends then, and the reading of a pattern's file.
+ghost use Rattle.std.specs.Prelude.{◌≡◌, true, false, is_ok, IfErr};
+ghost use Rattle.std.specs.Process.{exit_status};
 ghost use Rattle.files.specs.Failures.{OfReading};
 ghost use Rattle.files.specs.declared.failing.Failed.TheVariants.{Memory, Output};
 
@@ -7,6 +8,7 @@ use crate::bytes::numbers;
 use crate::reading::read;
 use std::alloc::{AllocError, AllocFailed};
 use std::io;
+use std::process::ExitCode;
 
 #[derive(Drop)]
 pub enum Failed {
@@ -37,6 +39,21 @@ impl From<io::Error> for Failed {
 
     fn from(_e: io::Error) -> Failed {
         Failed::Output
+    }
+}
+
+// The status that a program ends with: 0, or 1 after an error. What failed was said where it failed, but for want of memory.
+pub fn ending(rt: &HostRuntime, program: &str, outcome: Result<(), Failed>) -> ExitCode
+    ensures success { is_ok outcome ≡ true → exit_status result ≡ 0 }
+    ensures failure { is_ok outcome ≡ false → exit_status result ≡ 1 }
+{
+    match outcome {
+        Ok(()) => ExitCode::SUCCESS,
+        Err(Failed::Memory) => {
+            let _ = eprintln!(rt; "{program}: there is not enough memory");
+            ExitCode::FAILURE
+        }
+        Err(Failed::Said | Failed::Output) => ExitCode::FAILURE,
     }
 }
 

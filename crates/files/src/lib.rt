@@ -17,7 +17,7 @@ pub use asking::PatternSource;
 pub use bytes::{NUMBER_BYTES, number, numbers};
 pub use complaining::complaint;
 pub use decoding::{EVENT_BYTES, Reading, event, events};
-pub use failing::{Failed, read_file, read_pattern};
+pub use failing::{Failed, ending, read_file, read_pattern};
 pub use faults::{Fault, Part, too_large};
 pub use reading::read;
 pub use text::{line, push_line};

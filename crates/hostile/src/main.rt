@@ -13,7 +13,7 @@ mod tally;
 mod trying;
 
 use calls::Call;
-use files::{Failed, line};
+use files::{Failed, ending, line};
 use harming::Pair;
 use judging::Wrong;
 use layout::WITHIN;
@@ -90,14 +90,6 @@ fn run_on_arguments(rt: &HostRuntime) -> Result<(), Failed> {
     Err(Failed::Said)
 }
 
-// What failed is said where it fails, but for want of memory.
 fn main(rt: HostRuntime) -> ExitCode {
-    match run_on_arguments(&rt) {
-        Ok(()) => ExitCode::SUCCESS,
-        Err(Failed::Memory) => {
-            let _ = eprintln!(rt; "hostile: there is not enough memory");
-            ExitCode::FAILURE
-        }
-        Err(Failed::Said | Failed::Output) => ExitCode::FAILURE,
-    }
+    ending(&rt, "hostile", run_on_arguments(&rt))
 }

@@ -4,7 +4,7 @@
 mod listening;
 mod source;
 
-use files::{EVENT_BYTES, Failed, PatternSource};
+use files::{EVENT_BYTES, Failed, PatternSource, ending};
 use listening::Listening;
 use source::Source;
 use std::env;
@@ -93,14 +93,6 @@ fn run_on_arguments(rt: &HostRuntime) -> Result<(), Failed> {
     Err(Failed::Said)
 }
 
-// What failed is said where it fails, but for want of memory.
 fn main(rt: HostRuntime) -> ExitCode {
-    match run_on_arguments(&rt) {
-        Ok(()) => ExitCode::SUCCESS,
-        Err(Failed::Memory) => {
-            let _ = eprintln!(rt; "listen: there is not enough memory");
-            ExitCode::FAILURE
-        }
-        Err(Failed::Said | Failed::Output) => ExitCode::FAILURE,
-    }
+    ending(&rt, "listen", run_on_arguments(&rt))
 }

@@ -161,11 +161,11 @@ impl Search<'_> {
         ensures bounds { (slice_index at.now depth ≤ result) × (result ≤ end) }
         ensures passed { (i : ℕ) → i < result → slice_index at.now depth ≤ i → row_ok (held self.entry.held.front.now self.entry.held.back.now) (kept_pattern self.entry.kept.words.now).within (kept_pattern self.entry.kept.words.now).steps (chosen at.now depth) i ≡ false }
     {
+        let Some(who) = self.who_asked(at, row, depth) else {
+            return self.next_candidate(at, depth, end);
+        };
         let kind = self.kept.kind_of(level_step(self.kept.steps(), depth));
-        match self.who_asked(at, row, depth) {
-            Some(who) => self.held.next_of_who(who, kind, at[depth], end),
-            None => self.next_candidate(at, depth, end),
-        }
+        self.held.next_of_who(who, kind, at[depth], end)
     }
 
     // The first position of a depth below the last event's: behind the one before; the first event's where the last is within the window.

@@ -4,7 +4,7 @@
 #[cfg(test)]
 mod tests;
 
-use files::{Failed, PatternSource};
+use files::{Failed, PatternSource, ending};
 use std::env;
 use std::process::ExitCode;
 use syntax::{Unwritten, write};
@@ -34,14 +34,6 @@ fn run_on_arguments(rt: &HostRuntime) -> Result<(), Failed> {
     Err(Failed::Said)
 }
 
-// What failed is said where it fails, but for want of memory.
 fn main(rt: HostRuntime) -> ExitCode {
-    match run_on_arguments(&rt) {
-        Ok(()) => ExitCode::SUCCESS,
-        Err(Failed::Memory) => {
-            let _ = eprintln!(rt; "show: there is not enough memory");
-            ExitCode::FAILURE
-        }
-        Err(Failed::Said | Failed::Output) => ExitCode::FAILURE,
-    }
+    ending(&rt, "show", run_on_arguments(&rt))
 }

@@ -6,8 +6,8 @@ use Rattle.rows.proofs.Pruning.{kept_kind_not}
 use Rattle.rows.proofs.OtherWho.{either_who}
 use Rattle.rows.proofs.levels.Search.next_asked.Goals as goal
 
-pub returns-in-Some : goal.returns-in-Some
-returns-in-Some c =
+pub returns : goal.returns
+returns c =
     let words = c.args.self.kept.words.now in
     let h = held c.args.self.held.front.now c.args.self.held.back.now in
     record {
@@ -20,6 +20,3 @@ returns-in-Some c =
           (c.next_of_who.ensures.passed i l k t))
           (λ t. c.in-Some.ensures i t (omega (arith, c.next_of_who.ensures.bounds, c.requires.depth_bound.1.1)));
     }
-
-pub returns-in-None : goal.returns-in-None
-returns-in-None c = record { bounds = c.next_candidate.ensures.bounds; passed = c.next_candidate.ensures.passed }
