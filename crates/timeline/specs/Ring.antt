@@ -19,6 +19,10 @@ abbrev pub event_at : List ℕ → ℕ → Event
 event_at ring n =
     record { heard = slice_index ring n; time = slice_index ring (n + 1); kind = slice_index ring (n + 2); who = slice_index ring (n + 3); value = slice_index ring (n + 4) }
 
+-- an event as its five numbers, which event_at reads
+abbrev pub numbers_of : Event → List ℕ
+numbers_of e = e.heard ∷ e.time ∷ e.kind ∷ e.who ∷ e.value ∷ []
+
 -- the ring with the five numbers of e from n on
 abbrev pub with_event : List ℕ → ℕ → Event → List ℕ
 with_event ring n e =

@@ -2,11 +2,8 @@
 ghost use Rattle.std.specs.Prelude.{◌≡◌, ℕ, ◌+◌, ◌%◌, ◌<◌, ◌≤◌, length, ◌≢◌};
 ghost use Rattle.timeline.specs.Ring.{capacity, ring_long, slot};
 
-use crate::events::Event;
+use crate::events::{EVENT_NUMBERS, Event};
 use crate::spans::CAPACITY;
-
-// How many numbers an event takes.
-pub const WIDTH: usize = 5;
 
 // The slot that lies i behind another, counted round.
 pub fn slot_behind(start: usize, i: usize) -> usize
@@ -21,7 +18,7 @@ pub fn get(ring: &[u64], start: usize, i: usize) -> Event
     requires { (start < capacity) × ((i < capacity) × (length ring.now ≡ ring_long)) }
     ensures { result ≡ slot ring.now (start + i) }
 {
-    let n = slot_behind(start, i) * WIDTH;
+    let n = slot_behind(start, i) * EVENT_NUMBERS;
     Event {
         heard: ring[n],
         time: ring[n + 1],
@@ -36,7 +33,7 @@ pub fn store(ring: &mut [u64], start: usize, i: usize, e: Event)
     ensures here { slot ring.new (start + i) ≡ e }
     ensures others { (k : ℕ) → k < capacity → (k ≢ i) → slot ring.new (start + k) ≡ slot ring.old (start + k) }
 {
-    let n = slot_behind(start, i) * WIDTH;
+    let n = slot_behind(start, i) * EVENT_NUMBERS;
     ring[n] = e.heard;
     ring[n + 1] = e.time;
     ring[n + 2] = e.kind;

@@ -1,5 +1,4 @@
 // The ring on small examples.
-use crate::slots::WIDTH;
 use crate::*;
 use std::test::Fail;
 
@@ -47,10 +46,22 @@ fn refuses(rt: HostRuntime) -> Result<(), Fail> {
     for n in &ring {
         assert_eq!(rt; *n, 7);
     }
-    let mut short = [7u64; WIDTH];
+    let mut short = [7u64; EVENT_NUMBERS];
     assert!(rt; put(&mut short, Span::empty(), event(0, 9)).is_none());
     assert!(rt; forget(&mut short, full, 1).is_none());
     assert!(rt; parts(&short, full).is_none());
-    assert_eq!(rt; short, [7u64; WIDTH]);
+    assert_eq!(rt; short, [7u64; EVENT_NUMBERS]);
+    Ok(())
+}
+
+// An event is its five numbers in their order, there and back.
+#[test]
+fn is_five_numbers(rt: HostRuntime) -> Result<(), Fail> {
+    let numbers = [4, 9, 1, 2, 3];
+    let read = Event::from(numbers);
+    assert_eq!(rt; read, event(4, 9));
+    assert_eq!(rt; <[u64; EVENT_NUMBERS]>::from(read), numbers);
+    assert!(rt; read != Event::NOTHING);
+    assert_eq!(rt; Event::NOTHING, Event::from([0; EVENT_NUMBERS]));
     Ok(())
 }
