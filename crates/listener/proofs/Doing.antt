@@ -1,5 +1,5 @@
 -- What the code does is what the machine does, case by case, over plain variables.
-use Rattle.std.proofs.Common.{◌≡◌, ℕ, ◌+◌, ◌-◌, ◌%◌, ◌<◌, ◌≤◌, Bool, List, ◌++◌, length, get_or, take, drop, Some, None, Option, sym, refl, ap, ◌∙◌, subst, ap₂, arith, le-ltb, lt-ltb}
+use Rattle.std.proofs.Common.{◌≡◌, ℕ, ◌+◌, ◌-◌, ◌%◌, ◌<◌, ◌≤◌, Bool, List, ◌++◌, length, get_or, take, drop, Some, None, Option, Ok, Result, sym, refl, ap, ◌∙◌, subst, ap₂, arith, le-ltb, lt-ltb}
 use Rattle.std.proofs.lemmas.List.{length-take-le}
 use Rattle.std.proofs.lemmas.Bool.Decides.{nat_tests as by_tests}
 use Rattle.timeline.specs.declared.events.Event.{Event}
@@ -16,13 +16,14 @@ use Rattle.listener.specs.declared.head.Phase.TheVariants.{New, Waiting, Telling
 use Rattle.listener.specs.declared.head.Head.{Head}
 use Rattle.listener.specs.declared.head.Turn.TheVariants.{Late, Full, Counts}
 use Rattle.listener.specs.declared.acts.Told.{Told}
+use Rattle.listener.specs.declared.acts.Refusal.{Refusal}
 use Rattle.listener.specs.declared.acts.Told.TheVariants.{Row}
 use Rattle.listener.specs.Engine.{Act, tells, waits, Stepped}
 use Rattle.listener.specs.Machine.{memory_long, no_places, memory_of, cells_of, ring_of, room, stale_with, counting, hear, settled_head, settled, phase_after, act_after, with_places, told_or_settled, tell_from, below_run, ring_with, len_with, turned}
 use Rattle.listener.specs.Entry.{ActTold, Did}
 use Rattle.listener.proofs.Words.{cells_stay, ring_there}
 
-pub did : (st : Stepped) (a : Act) (t : Told) (m₁ out out₁ : List ℕ) → m₁ ≡ st.memory → st.act ≡ a → ActTold a t out out₁ → Did st t m₁ out out₁
+pub did : (st : Stepped) (a : Act) (t : Result Told Refusal) (m₁ out out₁ : List ℕ) → m₁ ≡ st.memory → st.act ≡ a → ActTold a t out out₁ → Did st t m₁ out out₁
 did st a t m₁ out out₁ e q h = record { memory = e; told = subst (λ (x : Act). ActTold x t out out₁) (sym q) h }
 
 -- HEARING
@@ -74,24 +75,24 @@ module _ (ph : Phase) (h : Head) (cells ring : List ℕ) (c : Cursor) where
   tells_by o e = ap (told_or_settled ph h cells ring) (sym e)
 
   pub tells_none :
-      (t : Told) (m₁ out out₁ : List ℕ) → None ≡ found → Did (settled ph h cells ring) t m₁ out out₁ → Did (tell_from ph h cells ring c) t m₁ out out₁
+      (t : Result Told Refusal) (m₁ out out₁ : List ℕ) → None ≡ found → Did (settled ph h cells ring) t m₁ out out₁ → Did (tell_from ph h cells ring c) t m₁ out out₁
   tells_none t m₁ out out₁ e d = subst (λ (st : Stepped). Did st t m₁ out out₁) (sym (tells_by None e)) d
 
   six_most : (n k : ℕ) → k ≡ at_most 6 n → k ≤ 6
   six_most n k e = grind (arith, by_tests)
 
   row_told :
-      (xs out out₁ : List ℕ) (k n : ℕ) → n ≡ k → k ≤ 6 → length xs ≡ 6 → out₁ ≡ take n xs ++ drop n out → ActTold (tells (take k xs)) (Row n) out out₁
+      (xs out out₁ : List ℕ) (k n : ℕ) → n ≡ k → k ≤ 6 → length xs ≡ 6 → out₁ ≡ take n xs ++ drop n out → ActTold (tells (take k xs)) (Ok (Row n)) out out₁
   unfolding ActTold
   row_told xs out out₁ k n e l s w =
       let long : length (take k xs) ≡ k = length-take-le k xs (omega arith) in
-      (ap Row (e ∙ sym long), w ∙ ap (λ (x : ℕ). take x xs ++ drop x out) e ∙ ap (λ (x : ℕ). take k xs ++ drop x out) (sym long))
+      (ap (λ (x : ℕ). Ok (Row x)) (e ∙ sym long), w ∙ ap (λ (x : ℕ). take x xs ++ drop x out) e ∙ ap (λ (x : ℕ). take k xs ++ drop x out) (sym long))
 
   pub tells_row :
       (f : Found) (n : ℕ) (m₁ out out₁ : List ℕ) → Some f ≡ found → n ≡ kept_count cells → length f.numbers ≡ 6
-      → m₁ ≡ memory_of ph (with_places h f.next.at) cells ring → out₁ ≡ take n f.numbers ++ drop n out → Did (tell_from ph h cells ring c) (Row n) m₁ out out₁
+      → m₁ ≡ memory_of ph (with_places h f.next.at) cells ring → out₁ ≡ take n f.numbers ++ drop n out → Did (tell_from ph h cells ring c) (Ok (Row n)) m₁ out out₁
   tells_row f n m₁ out out₁ e k s m w =
-      subst (λ (st : Stepped). Did st (Row n) m₁ out out₁) (sym (tells_by (Some f) e))
+      subst (λ (st : Stepped). Did st (Ok (Row n)) m₁ out out₁) (sym (tells_by (Some f) e))
       (record { memory = m; told = row_told f.numbers out out₁ (kept_count cells) n k (six_most (get_or cells 2 0) (kept_count cells) refl) s w })
 
 -- AN EVENT THAT COUNTS

@@ -3,25 +3,15 @@ ghost use Rattle.std.specs.Prelude.{◌≡◌, ◌≤◌, length, slice_index};
 ghost use Rattle.patterns.specs.Limits.{an_event};
 ghost use Rattle.patterns.specs.Numbers.{pattern_in};
 ghost use Rattle.listener.specs.Machine.{memory_long, begun, came, ended, gone_on, machine, event_of, cells_of, cursor_of};
-ghost use Rattle.listener.specs.Entry.{Did, told_of, StepSays, step_fits};
+ghost use Rattle.listener.specs.Entry.{Did, call_number, told_of, StepSays, step_fits};
 
-use crate::acts::Told;
+use crate::acts::{Call, Refusal, Told};
 use crate::head::{CELLS, Head, LIMIT, MEMORY_LONG, Phase, RING, Turn};
 use crate::memory::pattern_in;
 use crate::turns::{begin_at, count, hear, tell};
 use patterns::keep;
 use rows::Cursor;
 use timeline::Event;
-
-// The refusals: the slices or the kind don't fit; no pattern; out of turn, a memory that isn't the listener's own, or numbers too large; no
-// room.
-pub const MISFIT: u64 = 0;
-
-pub const NO_PATTERN: u64 = 1;
-
-pub const OUT_OF_TURN: u64 = 2;
-
-pub const NO_ROOM: u64 = 8;
 
 // A row has at most so many numbers, and a lent row at least as many as a pattern has steps.
 const ROW_MOST: usize = 1024;
@@ -58,53 +48,53 @@ fn is_event(e: Event) -> bool
 }
 
 // It is given a pattern.
-fn begin(memory: &mut [u64], row: &[u64], out: &mut [u64]) -> Told
+fn begin(memory: &mut [u64], row: &[u64], out: &mut [u64]) -> Result<Told, Refusal>
     requires { length memory.old ≡ memory_long }
     ensures { Did (begun memory.old (pattern_in row.now)) result memory.new out.old out.new }
 {
     let Some(_) = Head::in_phase(memory, Phase::New) else {
-        return Told::No(OUT_OF_TURN);
+        return Err(Refusal::OutOfTurn);
     };
     let Ok(_) = keep(row, &mut memory[CELLS..RING]) else {
-        return Told::No(NO_PATTERN);
+        return Err(Refusal::NoPattern);
     };
     Head::BLANK.store(memory, Phase::Waiting);
-    Told::Waits
+    Ok(Told::Waits)
 }
 
 // It is told of an event.
-fn come(memory: &mut [u64], row: &[u64], out: &mut [u64]) -> Told
+fn come(memory: &mut [u64], row: &[u64], out: &mut [u64]) -> Result<Told, Refusal>
     requires { (length memory.old ≡ memory_long) × (6 ≤ length out.old) }
     ensures { Did (came memory.old (slice_index row.now 0) (slice_index row.now 1) (slice_index row.now 2) (slice_index row.now 3)) result memory.new out.old out.new }
 {
     let Some(head) = Head::in_phase(memory, Phase::Waiting) else {
-        return Told::No(OUT_OF_TURN);
+        return Err(Refusal::OutOfTurn);
     };
     let e = event_in(row, head.count);
     if !is_event(e) {
-        return Told::No(OUT_OF_TURN);
+        return Err(Refusal::OutOfTurn);
     }
     match hear(memory, head, e) {
         Turn::Late => {
             let count = head.count + 1;
             Head { count, ..head }.store(memory, Phase::Waiting);
-            Told::Late
+            Ok(Told::Late)
         }
         Turn::Full => {
             head.store(memory, Phase::Over);
-            Told::No(NO_ROOM)
+            Err(Refusal::NoRoom)
         }
         Turn::Counts(head, named) => count(memory, head, e, named, out),
     }
 }
 
 // Nothing more comes.
-fn finish(memory: &mut [u64], out: &mut [u64]) -> Told
+fn finish(memory: &mut [u64], out: &mut [u64]) -> Result<Told, Refusal>
     requires { (length memory.old ≡ memory_long) × (6 ≤ length out.old) }
     ensures { Did (ended memory.old) result memory.new out.old out.new }
 {
     let Some(head) = Head::in_phase(memory, Phase::Waiting) else {
-        return Told::No(OUT_OF_TURN);
+        return Err(Refusal::OutOfTurn);
     };
     let head = Head {
         upto: head.len,
@@ -125,7 +115,7 @@ fn cursor_of(memory: &[u64], head: Head) -> Cursor
 }
 
 // It is to go on telling.
-fn go_on(memory: &mut [u64], out: &mut [u64]) -> Told
+fn go_on(memory: &mut [u64], out: &mut [u64]) -> Result<Told, Refusal>
     requires { (length memory.old ≡ memory_long) × (6 ≤ length out.old) }
     ensures { Did (gone_on memory.old) result memory.new out.old out.new }
 {
@@ -134,32 +124,32 @@ fn go_on(memory: &mut [u64], out: &mut [u64]) -> Told
         return tell(memory, Phase::Telling, head, cursor, out);
     }
     let Some(head) = Head::in_phase(memory, Phase::Ending) else {
-        return Told::No(OUT_OF_TURN);
+        return Err(Refusal::OutOfTurn);
     };
     let cursor = cursor_of(memory, head);
     tell(memory, Phase::Ending, head, cursor, out)
 }
 
-fn act(memory: &mut [u64], kind: u64, row: &[u64], out: &mut [u64]) -> Told
+fn act(memory: &mut [u64], call: Call, row: &[u64], out: &mut [u64]) -> Result<Told, Refusal>
     requires { (length memory.old ≡ memory_long) × (6 ≤ length out.old) }
-    ensures { Did (machine memory.old (told_of kind row.now)) result memory.new out.old out.new }
+    ensures { Did (machine memory.old (told_of (call_number call) row.now)) result memory.new out.old out.new }
 {
-    match kind {
-        0 => begin(memory, row, out),
-        1 => come(memory, row, out),
-        2 => finish(memory, out),
-        _ => go_on(memory, out),
+    match call {
+        Call::Pattern => begin(memory, row, out),
+        Call::Event => come(memory, row, out),
+        Call::End => finish(memory, out),
+        Call::Next => go_on(memory, out),
     }
 }
 
-// One step: it is told a pattern (kind 0, its numbers in the row), an event (1: time, kind, who, value), that nothing more comes (2), or to
-// go on (3), and does one act. A row that is told stands in front of the lent row. Where the slices or the kind don't fit it refuses with
-// 0, and nothing is changed.
-pub fn step(memory: &mut [u64], kind: u64, row: &[u64], out: &mut [u64]) -> Told
+// One step: it is told a pattern, an event, that nothing more comes, or to go on, each by the number of its call, and does one act. A row
+// that is told stands in front of the lent row. Where the slices or the kind don't fit it is a misfit, and nothing is changed.
+pub fn step(memory: &mut [u64], kind: u64, row: &[u64], out: &mut [u64]) -> Result<Told, Refusal>
     ensures { StepSays memory.old kind row.now out.old (step_fits memory.old kind row.now out.old) result memory.new out.new }
 {
-    if memory.len() != MEMORY_LONG || kind > 3 || row.len() > ROW_MOST || out.len() < OUT_LEAST {
-        return Told::No(MISFIT);
+    let call = Call::try_from(kind)?;
+    if memory.len() != MEMORY_LONG || row.len() > ROW_MOST || out.len() < OUT_LEAST {
+        return Err(Refusal::Misfit);
     }
-    act(memory, kind, row, out)
+    act(memory, call, row, out)
 }

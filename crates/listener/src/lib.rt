@@ -12,7 +12,7 @@ mod promise;
 mod tests;
 mod turns;
 
-pub use acts::Told;
+pub use acts::{Call, Refusal, Told};
 pub use entry::step;
 pub use head::MEMORY_LONG;
 pub use promise::{full_exactly, holds_just, keeps_its_promise, tells_all, tells_what_is_known};

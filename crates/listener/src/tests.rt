@@ -16,13 +16,12 @@ const BIG: u64 = 4_611_686_018_427_387_904;
 // and how long the row is.
 pub fn act(memory: &mut [u64], kind: u64, row: &[u64]) -> (u64, [u64; 6]) {
     let mut out = [7u64; 6];
-    let told = step(memory, kind, row, &mut out);
-    let number = match told {
-        Told::Waits => 0,
-        Told::Late => 1,
-        Told::Over => 2,
-        Told::No(k) => k.saturating_add(10),
-        Told::Row(n) => n.saturating_add(100),
+    let number = match step(memory, kind, row, &mut out) {
+        Ok(Told::Waits) => 0,
+        Ok(Told::Late) => 1,
+        Ok(Told::Over) => 2,
+        Err(refusal) => u64::from(refusal).saturating_add(10),
+        Ok(Told::Row(n)) => n.saturating_add(100),
     };
     (number, out)
 }
@@ -126,7 +125,10 @@ fn refuses_misfits(rt: HostRuntime) -> Result<(), Fail> {
     refused(&rt, heap, &mut memory, 0, &row, 0)?;
     refused(&rt, heap, &mut memory, 0, &row[1..], 1)?;
     let mut short = [7u64; 5];
-    assert!(rt; matches!(step(&mut memory, 0, &CALM, &mut short), Told::No(0)));
+    assert_eq!(rt;
+        step(&mut memory, 0, &CALM, &mut short),
+        Err(Refusal::Misfit)
+    );
     assert_eq!(rt; short, [7u64; 5]);
     says(&rt, &mut memory, 0, &CALM, 0);
     Ok(())

@@ -9,7 +9,7 @@ ghost use Rattle.listener.specs.declared.head.Turn.TheVariants.{Counts};
 ghost use Rattle.listener.specs.Machine.{memory_long, cells_of, ring_of, Bounded, Ready, ReadyTurn, latest_with, settled, tell_from, ring_with, len_with, turned, hear as hear_of};
 ghost use Rattle.listener.specs.Entry.{Did};
 
-use crate::acts::Told;
+use crate::acts::{Refusal, Told};
 use crate::head::{Head, MEMORY_LONG, Phase, RING, ROOM, Turn};
 use crate::memory::{forget_stale, hold, pattern_in, run_below, span_of};
 use rows::{Cursor, Found, next_row};
@@ -66,7 +66,7 @@ pub fn hear(memory: &[u64], head: Head, e: Event) -> Turn
 }
 
 // All rows are told: what is stale is forgotten, and the listener waits, or is over.
-fn settle(memory: &mut [u64], phase: Phase, head: Head, out: &mut [u64]) -> Told
+fn settle(memory: &mut [u64], phase: Phase, head: Head, out: &mut [u64]) -> Result<Told, Refusal>
     requires { (length memory.old ≡ memory_long) × ((head.start < capacity) × ((head.len ≤ capacity) × (head.stale ≤ head.len))) }
     ensures { Did (settled phase head (cells_of memory.old) (ring_of memory.old)) result memory.new out.old out.new }
 {
@@ -83,11 +83,11 @@ fn settle(memory: &mut [u64], phase: Phase, head: Head, out: &mut [u64]) -> Told
     match phase {
         Phase::Ending => {
             head.store(memory, Phase::Over);
-            Told::Over
+            Ok(Told::Over)
         }
         _ => {
             head.store(memory, Phase::Waiting);
-            Told::Waits
+            Ok(Told::Waits)
         }
     }
 }
@@ -112,7 +112,13 @@ fn write_row(out: &mut [u64], numbers: [u64; 6], many: usize)
 }
 
 // Tells the next row from a cursor on; where there is none, the telling is done with.
-pub fn tell(memory: &mut [u64], phase: Phase, head: Head, cursor: Cursor, out: &mut [u64]) -> Told
+pub fn tell(
+    memory: &mut [u64],
+    phase: Phase,
+    head: Head,
+    cursor: Cursor,
+    out: &mut [u64],
+) -> Result<Told, Refusal>
     requires memory_len { (length memory.old ≡ memory_long) × (6 ≤ length out.old) }
     requires start_lt_capacity { (head.start < capacity) × ((head.len ≤ capacity) × (head.stale ≤ head.len)) }
     ensures { Did (tell_from phase head (cells_of memory.old) (ring_of memory.old) cursor) result memory.new out.old out.new }
@@ -124,7 +130,7 @@ pub fn tell(memory: &mut [u64], phase: Phase, head: Head, cursor: Cursor, out: &
     let at = found.next.at;
     Head { at, ..head }.store(memory, phase);
     write_row(out, found.numbers, steps);
-    Told::Row(steps as u64)
+    Ok(Told::Row(steps as u64))
 }
 
 // Holds an event that the pattern names, and leaves one that it doesn't; how many are held then.
@@ -152,7 +158,13 @@ pub fn begin_at(known: usize) -> Cursor
 }
 
 // An event counts: it is held if it has to be, and the rows are told whose last events are now not above what is heard to.
-pub fn count(memory: &mut [u64], head: Head, e: Event, named: bool, out: &mut [u64]) -> Told
+pub fn count(
+    memory: &mut [u64],
+    head: Head,
+    e: Event,
+    named: bool,
+    out: &mut [u64],
+) -> Result<Told, Refusal>
     requires { (length memory.old ≡ memory_long) × ((6 ≤ length out.old) × (Ready head)) }
     ensures { Did (turned head (cells_of memory.old) (ring_of memory.old) e (Counts head named)) result memory.new out.old out.new }
 {
