@@ -9,3 +9,4 @@ mod Parts
 mod May
 mod Wholes
 mod Each
+mod Numbered

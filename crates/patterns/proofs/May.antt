@@ -3,12 +3,12 @@ use Rattle.std.proofs.Common.{◌≡◌, ℕ, ◌+◌, ◌<◌, ◌≤◌, Bool,
 use lib.Seq.{sets}
 use Rattle.std.proofs.lemmas.Bool.{and_from, and_right, le-leb, lt-leb}
 use Rattle.std.proofs.lemmas.Bool.Decides.{nat_tests}
-use Rattle.timeline.specs.Lists.{every, none_of}
+use Rattle.timeline.specs.Lists.{every}
 use Rattle.patterns.specs.Patterns.{Test, Step}
-use Rattle.patterns.specs.Limits.{a_test, a_step, some_steps, a_pattern}
+use Rattle.patterns.specs.Limits.{a_step, some_steps, a_pattern}
 use Rattle.patterns.specs.Numbers.{steps_in, pattern_in}
 use Rattle.patterns.specs.Kept.{padded, test_cells, step_cells, pattern_cells}
-use Rattle.patterns.specs.Reading.{a_head, comparison, a_comparison, comparison_cells}
+use Rattle.patterns.specs.Reading.{a_head}
 use Rattle.patterns.proofs.Parts.{length_steps}
 
 module _ {A : Type 0} (f : A → Bool) where
@@ -34,19 +34,6 @@ module _ {A : Type 0} (f : A → Bool) where
 
     pub few_enough : k ≤ most → every f xs ≡ true → (leb (length xs) most && every f xs) ≡ true
     few_enough l e = and_from (leb (length xs) most) _ (le-leb _ _ (rw long l)) e
-
-as_test : (n w s o : ℕ) (st : List ℕ) → let t : Test = record { what = w; sign = s; step = st; other = o } in a_comparison n (comparison t) ≡ a_test n t
-unfolding every none_of
-as_test n w s o [] = refl
-as_test n w s o (i ∷ []) = grind (arith, nat_tests)
-as_test n w s o (i ∷ j ∷ is) = grind (arith, nat_tests)
-
-pub comparison_may : (n : ℕ) (t : Test) → a_comparison n (comparison t) ≡ a_test n t
-comparison_may n t = as_test n t.what t.sign t.other t.step
-
-pub comparison_words : (t : Test) → comparison_cells (comparison t) ≡ test_cells t
-unfolding test_cells
-comparison_words t = refl
 
 pub length_test : (t : Test) → length (test_cells t) ≡ 5
 unfolding test_cells

@@ -1,9 +1,10 @@
 -- A pattern's parts by their places in a row of numbers, where each ends, and what reading one answers.
 -- Assumes nothing: these are definitions.
-use Rattle.std.specs.Prelude.{◌≡◌, ℕ, ◌+◌, ◌*◌, ◌≤◌, Bool, true, false, ◌&&◌, List, [], ◌∷◌, length, drop, Some, None, Ok, Err, Option, Result, ◌==◌, ◌≢◌, nat_le, nat_lt, slice_index}
-use Rattle.timeline.specs.Lists.{pick, every}
+use Rattle.std.specs.Prelude.{◌≡◌, ℕ, ◌+◌, ◌*◌, ◌≤◌, Bool, true, false, ◌&&◌, List, length, drop, Some, None, Ok, Err, Option, Result, ◌≢◌, nat_le, nat_lt, slice_index}
+use Rattle.timeline.specs.Lists.{every}
 use Rattle.patterns.specs.Patterns.{Test, Never, Step}
-use Rattle.patterns.specs.Limits.{some_tests, a_pattern}
+use Rattle.patterns.specs.Limits.{a_test, some_tests, a_pattern}
+use Rattle.patterns.specs.Codes.{test_of}
 use Rattle.patterns.specs.Numbers.{tests_in, nevers_in, nevers_long, pattern_in}
 use Rattle.patterns.specs.Kept.{pattern_cells, kept_pattern}
 use Rattle.patterns.specs.declared.comparing.Comparison.{Comparison}
@@ -49,17 +50,15 @@ some_nevers n vs = nat_le (length vs) 2 && every (a_never n) vs
 abbrev pub a_head : ℕ → ℕ → ℕ → Bool
 a_head within late count = (nat_lt within 1099511627776 && nat_lt late 1099511627776) && (nat_le 1 count && nat_le count 6)
 
--- a test as the code holds it: `back` is 1 where it compares with an earlier step, else 0, and `step` too
-abbrev pub comparison : Test → Comparison
-comparison t = record { what = t.what; sign = t.sign; back = length t.step; step = slice_index t.step 0; other = t.other }
+-- what a test of step n may compare with: a field of an earlier step, or a number below 2^62
+abbrev pub other_may : ℕ → Option ℕ → ℕ → Bool
+other_may n None o = nat_lt o 4611686018427387904
+other_may n (Some i) o = nat_lt i n && nat_lt o 3
 
-abbrev pub a_comparison : ℕ → Comparison → Bool
-a_comparison n p =
-    (nat_lt p.what 3 && nat_lt p.sign 3)
-    && pick (p.back == 0) (nat_lt p.other 4611686018427387904) (p.back == 1 && (nat_lt p.step n && nat_lt p.other 3))
-
-abbrev pub comparison_cells : Comparison → List ℕ
-comparison_cells p = p.what ∷ p.sign ∷ p.back ∷ p.step ∷ p.other ∷ []
+-- what reading a test of step n answers: that it may not be, or it
+abbrev pub ReadsTest : ℕ → Test → Option Comparison → Type 0
+ReadsTest n t None = a_test n t ≡ false
+ReadsTest n t (Some c) = (a_test n t ≡ true) × (test_of c ≡ t)
 
 -- what reading a part answers: that it may not be; or where it ends, with its words laid down
 abbrev pub Laid : Bool → ℕ → ℕ → List ℕ → List ℕ → Option ℕ → Type 0

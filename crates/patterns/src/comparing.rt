@@ -1,79 +1,94 @@
-// A test as five numbers of a row say it.
-ghost use Rattle.std.specs.Prelude.{◌≡◌, ◌+◌, ◌≤◌, length, slice_index};
-ghost use Rattle.std.proofs.lemmas.List.Edits.{sets};
-ghost use Rattle.patterns.specs.Kept.{kept_test};
-ghost use Rattle.patterns.specs.Reading.{comparison, a_comparison, comparison_cells};
+// A test, and the five numbers that say it in a row and in a kept pattern.
+ghost use Rattle.std.specs.Prelude.{◌≡◌, ◌+◌, ◌≤◌, slice_index};
+ghost use Rattle.patterns.specs.Kept.{test_cells, kept_test};
+ghost use Rattle.patterns.specs.Codes.{test_of, comparison};
+ghost use Rattle.patterns.specs.Reading.{other_may, ReadsTest};
 
-use crate::layout::{BACK_AT, FIELDS, NUMBERS, OTHER_AT, SIGN_AT, SIGNS, STEP_AT};
+use crate::fields::{Field, Sign};
+use crate::layout::{BACK_AT, FIELDS, NUMBERS, OTHER_AT, SIGN_AT, SIGNS, STEP_AT, TEST_WORDS};
 
 // A test: what is compared, how, and with what.
-#[derive(Clone, Copy)]
+#[derive(Clone, Copy, PartialEq, Eq, Debug)]
 pub struct Comparison {
-    pub what: u64,
-    pub sign: u64,
-    // 1 with a field of an earlier step's event, 0 with a number.
-    pub back: u64,
-    pub step: u64,
+    pub what: Field,
+    pub sign: Sign,
+    // The earlier step with whose event it compares; none where it compares with a number.
+    pub step: Option<u64>,
+    // The field of that event, or the number.
     pub other: u64,
 }
 
-// What stands at a place, and 0 behind the end.
-pub(crate) fn number(row: &[u64], pos: usize) -> u64
-    ensures { result ≡ slice_index row.now pos }
-{
-    if pos < row.len() { row[pos] } else { 0 }
-}
+// The field, the sign, 0 where it compares with a number, the step and the other; any five numbers are a test.
+impl From<[u64; TEST_WORDS]> for Comparison {
+    ghost from_gives = { λ words test. test ≡ comparison (kept_test words 0) };
 
-impl Comparison {
-    // The test at a place of a row, its flag 0 or 1, and with no step where it compares with a number.
-    pub(crate) fn read(row: &[u64], pos: usize) -> Comparison
-        requires { pos ≤ 2000 }
-        ensures { result ≡ comparison (kept_test row.now pos) }
-    {
-        let what = number(row, pos);
-        let sign = number(row, pos + SIGN_AT);
-        let other = number(row, pos + OTHER_AT);
-        if number(row, pos + BACK_AT) == 0 {
-            return Comparison {
-                what,
-                sign,
-                back: 0,
-                step: 0,
-                other,
-            };
-        }
-        let step = number(row, pos + STEP_AT);
+    fn from(words: [u64; TEST_WORDS]) -> Comparison {
+        let [what, sign, back, step, other] = words;
         Comparison {
-            what,
-            sign,
-            back: 1,
-            step,
+            what: Field::from(what),
+            sign: Sign::from(sign),
+            step: if back == 0 { None } else { Some(step) },
             other,
         }
     }
+}
 
-    // Whether it may be a test of a step with so many before it.
-    pub(crate) fn may_be(self, before: u64) -> bool
-        ensures { result ≡ a_comparison before self }
-    {
-        if self.what >= FIELDS || self.sign >= SIGNS {
-            return false;
+// The same way back: 1 and the step, or 0 and 0.
+impl From<Comparison> for [u64; TEST_WORDS] {
+    ghost from_gives = { λ test words. words ≡ test_cells (test_of test) };
+
+    fn from(test: Comparison) -> [u64; TEST_WORDS] {
+        let what = u64::from(test.what);
+        let sign = u64::from(test.sign);
+        match test.step {
+            Some(step) => [what, sign, 1, step, test.other],
+            None => [what, sign, 0, 0, test.other],
         }
-        match self.back {
-            0 => self.other < NUMBERS,
-            1 => self.step < before && self.other < FIELDS,
-            _ => false,
+    }
+}
+
+// What stands at a place, and 0 behind the end.
+pub fn number_at(row: &[u64], pos: usize) -> u64
+    ensures { result ≡ slice_index row.now pos }
+{
+    row.get(pos).copied().unwrap_or(0)
+}
+
+impl Comparison {
+    // Whether a step with so many before it may compare with this.
+    fn other_may_be(self, before: u64) -> bool
+        ensures { result ≡ other_may before self.step self.other }
+    {
+        match self.step {
+            Some(step) => step < before && self.other < FIELDS,
+            None => self.other < NUMBERS,
         }
     }
 
-    pub(crate) fn lay(self, words: &mut [u64], to: usize)
-        requires { to + 5 ≤ length words.old }
-        ensures { words.new ≡ sets words.old to (comparison_cells self) }
+    // The test that five numbers say; None where no step with so many before it may have it.
+    fn checked(words: [u64; TEST_WORDS], before: u64) -> Option<Comparison>
+        ensures { ReadsTest before (kept_test words 0) result }
     {
-        words[to] = self.what;
-        words[to + SIGN_AT] = self.sign;
-        words[to + BACK_AT] = self.back;
-        words[to + STEP_AT] = self.step;
-        words[to + OTHER_AT] = self.other;
+        let [what, sign, _, _, _] = words;
+        let test = Comparison::from(words);
+        if what >= FIELDS || sign >= SIGNS || !test.other_may_be(before) {
+            return None;
+        }
+        Some(test)
+    }
+
+    // The test at a place of a row; None where no step with so many before it may have it.
+    pub(crate) fn read(row: &[u64], pos: usize, before: u64) -> Option<Comparison>
+        requires { pos ≤ 2000 }
+        ensures { ReadsTest before (kept_test row.now pos) result }
+    {
+        let words = [
+            number_at(row, pos),
+            number_at(row, pos + SIGN_AT),
+            number_at(row, pos + BACK_AT),
+            number_at(row, pos + STEP_AT),
+            number_at(row, pos + OTHER_AT),
+        ];
+        Comparison::checked(words, before)
     }
 }

@@ -5,16 +5,18 @@ ghost use Rattle.patterns.specs.Codes.{field_numbered, field_number, sign_number
 
 use timeline::Event;
 
-#[derive(Clone, Copy)]
+#[derive(Clone, Copy, PartialEq, Eq, Debug)]
 pub enum Field {
     Who,
     Value,
     Time,
 }
 
-impl Field {
-    // 0 is who, 1 the value, any other the time.
-    pub fn numbered(number: u64) -> Field
+// 0 is who, 1 the value, any other the time.
+impl From<u64> for Field {
+    ghost from_gives = { λ number result. result ≡ field_numbered number };
+
+    fn from(number: u64) -> Field
         ensures same { result ≡ field_numbered number }
         ensures means { (e : Event) → field e (field_number result) ≡ field e number }
     {
@@ -23,6 +25,28 @@ impl Field {
             1 => Field::Value,
             _ => Field::Time,
         }
+    }
+}
+
+impl From<Field> for u64 {
+    ghost from_gives = { λ field result. result ≡ field_number field };
+
+    fn from(field: Field) -> u64 {
+        match field {
+            Field::Who => 0,
+            Field::Value => 1,
+            Field::Time => 2,
+        }
+    }
+}
+
+impl Field {
+    // 0 is who, 1 the value, any other the time.
+    pub fn numbered(number: u64) -> Field
+        ensures same { result ≡ field_numbered number }
+        ensures means { (e : Event) → field e (field_number result) ≡ field e number }
+    {
+        Field::from(number)
     }
 
     pub fn of(self, e: Event) -> u64
@@ -36,16 +60,18 @@ impl Field {
     }
 }
 
-#[derive(Clone, Copy)]
+#[derive(Clone, Copy, PartialEq, Eq, Debug)]
 pub enum Sign {
     Equal,
     Below,
     NotBelow,
 }
 
-impl Sign {
-    // 0 is equal, 1 below, any other not below.
-    pub fn numbered(number: u64) -> Sign
+// 0 is equal, 1 below, any other not below.
+impl From<u64> for Sign {
+    ghost from_gives = { λ number result. result ≡ sign_numbered number };
+
+    fn from(number: u64) -> Sign
         ensures same { result ≡ sign_numbered number }
         ensures means { (a b : ℕ) → compared (sign_number result) a b ≡ compared number a b }
     {
@@ -54,6 +80,28 @@ impl Sign {
             1 => Sign::Below,
             _ => Sign::NotBelow,
         }
+    }
+}
+
+impl From<Sign> for u64 {
+    ghost from_gives = { λ sign result. result ≡ sign_number sign };
+
+    fn from(sign: Sign) -> u64 {
+        match sign {
+            Sign::Equal => 0,
+            Sign::Below => 1,
+            Sign::NotBelow => 2,
+        }
+    }
+}
+
+impl Sign {
+    // 0 is equal, 1 below, any other not below.
+    pub fn numbered(number: u64) -> Sign
+        ensures same { result ≡ sign_numbered number }
+        ensures means { (a b : ℕ) → compared (sign_number result) a b ≡ compared number a b }
+    {
+        Sign::from(number)
     }
 
     pub fn holds(self, left: u64, right: u64) -> bool

@@ -7,11 +7,10 @@ use crate::layout::{
 };
 
 // A count, but no more than the most there can be.
-pub(crate) fn at_most(most: usize, count: u64) -> usize
+pub fn at_most(most: usize, count: u64) -> usize
     ensures { result ≡ at_most most count }
 {
-    let count = count as usize;
-    if count <= most { count } else { most }
+    count.min(most as u64) as usize
 }
 
 // Whether there is room for a step; where there is none, all words are read as 0.

@@ -7,15 +7,16 @@ mod fields;
 mod keeping;
 mod kept;
 mod laws;
-mod layout;
+pub mod layout;
 mod named;
 mod reading;
 #[cfg(test)]
 mod tests;
 mod tries;
 
+pub use comparing::{Comparison, number_at};
 pub use fields::{Field, Sign};
 pub use keeping::{Refusal, keep};
-pub use kept::Kept;
+pub use kept::{Kept, at_most};
 pub use laws::{fits_words, reads_back};
 pub use layout::PATTERN_WORDS;

@@ -4,13 +4,14 @@ ghost use Rattle.std.specs.Prelude.{◌≡◌, ◌+◌, ◌≤◌, length, repli
 ghost use Rattle.std.proofs.lemmas.List.Edits.{sets};
 ghost use Rattle.patterns.specs.Limits.{some_tests, a_step, a_pattern};
 ghost use Rattle.patterns.specs.Numbers.{pattern_in};
-ghost use Rattle.patterns.specs.Kept.{tests_cells, never_cells, nevers_cells, step_cells, pattern_cells};
+ghost use Rattle.patterns.specs.Codes.{test_of};
+ghost use Rattle.patterns.specs.Kept.{test_cells, tests_cells, never_cells, nevers_cells, step_cells, pattern_cells};
 ghost use Rattle.patterns.specs.Reading.{a_head, tests_at, tests_end, never_at, never_end, nevers_at, nevers_end, step_at, step_end, a_never, some_nevers, Laid, LaidAll};
 
-use crate::comparing::{Comparison, number};
+use crate::comparing::{Comparison, number_at};
 use crate::layout::{
-    COUNT_AT, KINDS, LATE_AT, MOST_NEVERS, MOST_STEPS, MOST_TESTS, NEVER_WORDS, NEVERS_AT,
-    STEP_WORDS, STEPS_AT, TEST_WORDS, TIMES, WITHIN_AT,
+    BACK_AT, COUNT_AT, KINDS, LATE_AT, MOST_NEVERS, MOST_STEPS, MOST_TESTS, NEVER_WORDS, NEVERS_AT,
+    OTHER_AT, SIGN_AT, STEP_AT, STEP_WORDS, STEPS_AT, TEST_WORDS, TIMES, WITHIN_AT,
 };
 
 // So many zeros.
@@ -23,23 +24,33 @@ fn lay_zeros(words: &mut [u64], to: usize, many: usize)
     }
 }
 
+// A test, in 5 words.
+fn lay_test(words: &mut [u64], to: usize, test: Comparison)
+    requires { to + 5 ≤ length words.old }
+    ensures { words.new ≡ sets words.old to (test_cells (test_of test)) }
+{
+    let [what, sign, back, step, other] = <[u64; TEST_WORDS]>::from(test);
+    words[to] = what;
+    words[to + SIGN_AT] = sign;
+    words[to + BACK_AT] = back;
+    words[to + STEP_AT] = step;
+    words[to + OTHER_AT] = other;
+}
+
 // Tests, in 21 words.
 fn lay_tests(words: &mut [u64], to: usize, row: &[u64], pos: usize, before: u64) -> Option<usize>
     requires { (to + 21 ≤ length words.old) × (pos ≤ 1000) }
     ensures { Laid (some_tests before (tests_at row.now pos)) (tests_end row.now pos) (pos + 21) (sets words.old to (tests_cells (tests_at row.now pos))) words.new result }
 {
-    let count = number(row, pos);
+    let count = number_at(row, pos);
     if count > MOST_TESTS as u64 {
         return None;
     }
     words[to] = count;
     let many = count as usize;
     for i in 0..many {
-        let test = Comparison::read(row, pos + 1 + TEST_WORDS * i);
-        if !test.may_be(before) {
-            return None;
-        }
-        test.lay(words, to + 1 + TEST_WORDS * i);
+        let test = Comparison::read(row, pos + 1 + TEST_WORDS * i, before)?;
+        lay_test(words, to + 1 + TEST_WORDS * i, test);
     }
     lay_zeros(
         words,
@@ -54,7 +65,7 @@ fn lay_never(words: &mut [u64], to: usize, row: &[u64], pos: usize, before: u64)
     requires { (to + 22 ≤ length words.old) × (pos ≤ 900) }
     ensures { Laid (a_never before (never_at row.now pos)) (never_end row.now pos) (pos + 22) (sets words.old to (never_cells (never_at row.now pos))) words.new result }
 {
-    let kind = number(row, pos);
+    let kind = number_at(row, pos);
     if kind >= KINDS {
         return None;
     }
@@ -67,7 +78,7 @@ fn lay_nevers(words: &mut [u64], to: usize, row: &[u64], pos: usize, before: u64
     requires { (to + 45 ≤ length words.old) × (pos ≤ 800) }
     ensures { Laid (some_nevers before (nevers_at row.now pos)) (nevers_end row.now pos) (pos + 45) (sets words.old to (nevers_cells (nevers_at row.now pos))) words.new result }
 {
-    let count = number(row, pos);
+    let count = number_at(row, pos);
     if count > MOST_NEVERS as u64 {
         return None;
     }
@@ -93,7 +104,7 @@ fn lay_step(words: &mut [u64], to: usize, row: &[u64], pos: usize, before: u64) 
     requires { (to + 67 ≤ length words.old) × (pos ≤ 700) }
     ensures { Laid (a_step before (step_at row.now pos)) (step_end row.now pos) (pos + 67) (sets words.old to (step_cells (step_at row.now pos))) words.new result }
 {
-    let kind = number(row, pos);
+    let kind = number_at(row, pos);
     if kind >= KINDS {
         return None;
     }
@@ -116,9 +127,9 @@ pub(crate) fn lay_pattern(words: &mut [u64], row: &[u64]) -> bool
     requires { 405 ≤ length words.old }
     ensures { LaidAll (a_pattern (pattern_in row.now)) (sets words.old 0 (pattern_cells (pattern_in row.now))) words.new result }
 {
-    let within = number(row, WITHIN_AT);
-    let late = number(row, LATE_AT);
-    let count = number(row, COUNT_AT);
+    let within = number_at(row, WITHIN_AT);
+    let late = number_at(row, LATE_AT);
+    let count = number_at(row, COUNT_AT);
     if !head_may_be(within, late, count) {
         return false;
     }

@@ -40,7 +40,7 @@ impl Kept<'_> {
         if self.words[at + BACK_AT] == 0 {
             return other;
         }
-        Field::numbered(other).of(earlier_event(earlier, self.words[at + STEP_AT]))
+        Field::from(other).of(earlier_event(earlier, self.words[at + STEP_AT]))
     }
 
     // Whether the test at a place holds.
@@ -48,9 +48,9 @@ impl Kept<'_> {
         requires { at + 5 ≤ 405 }
         ensures { result ≡ holds_of earlier.now e (kept_test self.entry.words.now at) }
     {
-        let own = Field::numbered(self.words[at]).of(e);
+        let own = Field::from(self.words[at]).of(e);
         let other = self.other_side(at, earlier);
-        Sign::numbered(self.words[at + SIGN_AT]).holds(own, other)
+        Sign::from(self.words[at + SIGN_AT]).holds(own, other)
     }
 
     // Whether all tests at a place hold.

@@ -10,22 +10,22 @@ use Rattle.patterns.proofs.reading.lay_nevers.Goals as goal
 
 pub returns-then-count : goal.returns-then-count
 returns-then-count c =
-    let xs = nevers_in c.number-count.result (drop (c.args.pos + 1) c.args.row.now) in
-    simp (sym c.number-count.ensures) (too_many (a_never c.args.before) 2 c.number-count.result xs (length_nevers _ _) c.if-count.true)
+    let xs = nevers_in c.number_at-count.result (drop (c.args.pos + 1) c.args.row.now) in
+    simp (sym c.number_at-count.ensures) (too_many (a_never c.args.before) 2 c.number_at-count.result xs (length_nevers _ _) c.if-count.true)
 
 pub returns-in_default : goal.returns-in_default
 returns-in_default c =
-    let k = c.number-count.result in
+    let k = c.number_at-count.result in
     let f = a_never c.args.before in
     let xs = nevers_in k (drop (c.args.pos + 1) c.args.row.now) in
     let more = nevers_more c.args.row.now k c.loop-i.i c.loop-i.next c.loop-i-test.true in
     let bad = sym c.loop-i.invariant.0 ∙ every_fail f (never_at c.args.row.now c.loop-i.next) _ _ more c.in_default.ensures in
-    simp (sym c.number-count.ensures) (not_every f 2 k xs (length_nevers _ _) bad)
+    simp (sym c.number_at-count.ensures) (not_every f 2 k xs (length_nevers _ _) bad)
 
 pub loop-i-preserved : goal.loop-i-preserved
 loop-i-preserved c =
     let row = c.args.row.now in
-    let k = c.number-count.result in
+    let k = c.number_at-count.result in
     let v = never_at row c.loop-i.next in
     let inv = c.loop-i.invariant in
     let h = c.in-Some.ensures in
@@ -40,7 +40,7 @@ loop-i-preserved c =
 pub returns : goal.returns
 unfolding nevers_cells
 returns c =
-    let k = c.number-count.result in
+    let k = c.number_at-count.result in
     let f = a_never c.args.before in
     let rest = drop c.loop-i.next c.args.row.now in
     let xs = nevers_in k (drop (c.args.pos + 1) c.args.row.now) in
@@ -49,7 +49,7 @@ returns c =
     let all = sym inv.0 ∙ every_done f _ ends in
     let far : c.loop-i.next ≡ c.args.pos + 1 + nevers_long k (drop (c.args.pos + 1) c.args.row.now) = omega (arith, no_farther k c.loop-i.i rest c.loop-i-test.false) in
     let put = lay_rest 22 2 never_cells (c.args.to + 1) c.loop-i.i k _ _ _ _ xs (omega arith) ends c.lay_zeros.ensures inv.3 in
-    simp (sym c.number-count.ensures) (
+    simp (sym c.number_at-count.ensures) (
       few_enough f 2 k xs (length_nevers _ _) c.if-count.false all,
       far,
       omega arith,

@@ -12,23 +12,23 @@ use Rattle.patterns.proofs.reading.lay_pattern.Goals as goal
 
 pub returns-then-not-head_may_be : goal.returns-then-not-head_may_be
 returns-then-not-head_may_be c =
-    sym (pattern_may c.args.row.now c.number-within.result c.number-late.result c.number-count.result c.number-within.ensures c.number-late.ensures c.number-count.ensures)
+    sym (pattern_may c.args.row.now c.number_at-within.result c.number_at-late.result c.number_at-count.result c.number_at-within.ensures c.number_at-late.ensures c.number_at-count.ensures)
     ∙ and_left _ _ (sym c.if-not-head_may_be.ensures)
 
 pub returns-in_default : goal.returns-in_default
 returns-in_default c =
-    let more = steps_more c.args.row.now c.number-count.result c.loop-i.i c.loop-i.next c.loop-i-test.true in
-    sym (pattern_may c.args.row.now c.number-within.result c.number-late.result c.number-count.result c.number-within.ensures c.number-late.ensures c.number-count.ensures)
+    let more = steps_more c.args.row.now c.number_at-count.result c.loop-i.i c.loop-i.next c.loop-i-test.true in
+    sym (pattern_may c.args.row.now c.number_at-within.result c.number_at-late.result c.number_at-count.result c.number_at-within.ensures c.number_at-late.ensures c.number_at-count.ensures)
     ∙ and_right _ _ (sym c.loop-i.invariant.0 ∙ steps_fail c.loop-i.i _ _ _ more c.in_default.ensures)
 
 pub loop-i-preserved : goal.loop-i-preserved
 loop-i-preserved c =
     let row = c.args.row.now in
-    let k = c.number-count.result in
+    let k = c.number_at-count.result in
     let s = step_at row c.loop-i.next in
     let inv = c.loop-i.invariant in
     let h = c.in-Some.ensures in
-    let few = head_few c.number-within.result c.number-late.result k c.if-not-head_may_be.ensures in
+    let few = head_few c.number_at-within.result c.number_at-late.result k c.if-not-head_may_be.ensures in
     let more = steps_more row k c.loop-i.i c.loop-i.next c.loop-i-test.true in
     rw h.1 (
       steps_turn c.loop-i.i s _ _ more h.0 ∙ inv.0,
@@ -39,11 +39,11 @@ loop-i-preserved c =
 pub returns : goal.returns
 returns c =
     let row = c.args.row.now in
-    let k = c.number-count.result in
+    let k = c.number_at-count.result in
     let ends = no_steps k c.loop-i.i (drop c.loop-i.next row) c.loop-i-test.false in
     let all : some_steps 0 (steps_in k (drop 3 row)) ≡ true = sym c.loop-i.invariant.0 ∙ steps_done c.loop-i.i _ ends in
     let put = lay_rest 67 6 step_cells 3 c.loop-i.i k _ _ _ _ (steps_in k (drop 3 row)) (omega arith) ends c.lay_zeros.ensures c.loop-i.invariant.2 in (
-      sym (pattern_may row c.number-within.result c.number-late.result k c.number-within.ensures c.number-late.ensures c.number-count.ensures)
+      sym (pattern_may row c.number_at-within.result c.number_at-late.result k c.number_at-within.ensures c.number_at-late.ensures c.number_at-count.ensures)
           ∙ and_from _ _ (sym c.if-not-head_may_be.ensures) all,
-      put ∙ pattern_whole row c.number-within.result c.number-late.result k c.number-within.ensures c.number-late.ensures c.number-count.ensures c.args.words.now,
+      put ∙ pattern_whole row c.number_at-within.result c.number_at-late.result k c.number_at-within.ensures c.number_at-late.ensures c.number_at-count.ensures c.args.words.now,
     )

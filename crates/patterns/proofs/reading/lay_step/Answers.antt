@@ -7,7 +7,7 @@ use Rattle.patterns.proofs.reading.lay_step.Goals as goal
 
 pub returns-in_default : goal.returns-in_default
 returns-in_default c =
-    step_no_tests c.args.row.now c.args.words.now c.args.before c.args.to c.args.pos c.number-kind.result c.number-kind.ensures c.in_default.ensures
+    step_no_tests c.args.row.now c.args.words.now c.args.before c.args.to c.args.pos c.number_at-kind.result c.number_at-kind.ensures c.in_default.ensures
 
 pub returns : goal.returns
 returns c =
@@ -15,9 +15,9 @@ returns c =
     let h = c.in-Some.ensures in
     laid_as c.lay_nevers.new.words c.lay_nevers.result
     (ap (λ q. some_nevers c.args.before (nevers_at row q)) h.1
-    ∙ step_may row c.args.words.now c.args.before c.args.to c.args.pos c.number-kind.result c.number-kind.ensures c.if-kind-ge-KINDS.false h.0)
+    ∙ step_may row c.args.words.now c.args.before c.args.to c.args.pos c.number_at-kind.result c.number_at-kind.ensures c.if-kind-ge-KINDS.false h.0)
     (ap (nevers_end row) h.1)
     (omega (arith, h.2))
     (ap₂ (λ w q. sets w (c.args.to + 22) (nevers_cells (nevers_at row q))) h.3 h.1
-    ∙ step_whole row c.args.words.now c.args.before c.args.to c.args.pos c.number-kind.result c.number-kind.ensures)
+    ∙ step_whole row c.args.words.now c.args.before c.args.to c.args.pos c.number_at-kind.result c.number_at-kind.ensures)
     c.lay_nevers.ensures

@@ -8,6 +8,6 @@ returns-then-self-at-eq0 c = other_number c.args.earlier.now c.args.self.words.n
 
 pub returns : goal.returns
 returns c =
-    c.of.ensures ∙ c.numbered.ensures.means c.earlier_event.result
+    c.of.ensures ∙ c.from.ensures.means c.earlier_event.result
     ∙ ap (λ e. field e (get_or c.args.self.words.now (c.args.at + 4) 0)) c.earlier_event.ensures
     ∙ other_field c.args.earlier.now c.args.self.words.now c.args.at c.if-self-at-eq0.false
