@@ -6,30 +6,19 @@ use crate::making::Case;
 use crate::said::{End, Row, Said};
 use crate::shapes::{Pattern, Unread};
 use crate::tally::Tally;
+use listener::Refusal;
 use rows::{FindError, find_all, find_counted};
-use std::alloc::{AllocError, AllocFailed, Global};
+use std::alloc::{AllocError, Global};
+use thiserror::Error;
 use timeline::Event;
 
-// The listener's number for what is no pattern.
-const NO_PATTERN: u64 = 1;
-
 // Why a case isn't gone through to its end.
-#[derive(Drop)]
+#[derive(Debug, Drop, Error)]
 pub enum Stop {
+    #[error("the listener says something else")]
     Differs(Difference),
-    Memory,
-}
-
-impl From<AllocError> for Stop {
-    fn from(_e: AllocError) -> Stop {
-        Stop::Memory
-    }
-}
-
-impl<T: Drop> From<AllocFailed<T>> for Stop {
-    fn from(_e: AllocFailed<T>) -> Stop {
-        Stop::Memory
-    }
+    #[error(transparent)]
+    Memory(#[from(alloc)] AllocError),
 }
 
 fn same(place: Place, told: Said, right: Said) -> Result<(), Stop> {
@@ -40,25 +29,24 @@ fn same(place: Place, told: Said, right: Said) -> Result<(), Stop> {
 }
 
 fn no_pattern(heap: Global) -> Said {
-    Said::only(heap, End::Refused(NO_PATTERN))
+    Said::only(heap, End::Refused(Refusal::NoPattern))
 }
 
 // What the finder found, as if it were told at the end.
 fn as_said(heap: Global, found: Result<Vec<Vec<u64>>, FindError>) -> Result<Said, Stop> {
-    match found {
-        Ok(found) => {
-            let mut rows = Vec::new(heap);
-            for numbers in found.iter() {
-                rows.push(Row::of(numbers))?;
-            }
-            Ok(Said {
-                rows,
-                end: End::Over,
-            })
-        }
-        Err(FindError::NoPattern) => Ok(no_pattern(heap)),
-        Err(FindError::Memory) => Err(Stop::Memory),
-    }
+    let found = match found {
+        Ok(found) => found,
+        Err(FindError::NoPattern) => return Ok(no_pattern(heap)),
+        Err(FindError::Memory) => return Err(Stop::Memory(AllocError)),
+    };
+    let rows = found
+        .iter()
+        .map(|numbers| Row::of(numbers, |number| *number))
+        .collect(heap)?;
+    Ok(Said {
+        rows,
+        end: End::Over,
+    })
 }
 
 // What is no pattern is refused by all.
@@ -118,7 +106,7 @@ pub fn compare(
             tally.count_no_pattern();
             return refused(heap, case, begun);
         }
-        Err(Unread::Memory) => return Err(Stop::Memory),
+        Err(Unread::Memory(e)) => return Err(Stop::Memory(e)),
     };
     same(Place::Pattern, begun, Said::only(heap, End::Waits))?;
     let mut knowing = Knowing::new(heap, pattern);

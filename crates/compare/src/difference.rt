@@ -5,7 +5,7 @@ use files::{Failed, line};
 use std::fmt;
 
 // At what they part.
-#[derive(Clone, Copy)]
+#[derive(Clone, Copy, Debug)]
 pub enum Place {
     Pattern,
     Event(u64),
@@ -27,7 +27,7 @@ impl fmt::Display for Place {
     }
 }
 
-#[derive(Drop)]
+#[derive(Debug, Drop)]
 pub struct Difference {
     pub place: Place,
     pub told: Said,

@@ -29,35 +29,30 @@ impl Knowing {
         self.pattern.steps.len()
     }
 
+    // All rows of the events that counted, in order.
+    fn fits(&self) -> Result<Vec<Fit>, AllocError> {
+        self.pattern.fits(self.heap, &self.counted)
+    }
+
     // The greatest time of an event that counted, less the lateness, and not below 0.
     fn watermark(&self) -> u64 {
-        let mut latest = 0;
-        for e in self.counted.iter() {
-            latest = latest.max(e.time);
-        }
-        latest.saturating_sub(self.pattern.late)
+        let latest = self.counted.iter().map(|e| e.time).max();
+        latest.unwrap_or(0).saturating_sub(self.pattern.late)
     }
 
     // Those of some rows that weren't known before.
     fn news(&self, fits: &[Fit]) -> Result<Vec<Row>, AllocError> {
-        let mut rows = Vec::new(self.heap);
-        for fit in fits {
-            if self.known.binary_search(fit).is_err() {
-                rows.push(Row::fitting(*fit, self.steps()))?;
-            }
-        }
-        Ok(rows)
+        fits.iter()
+            .filter(|fit| self.known.binary_search(fit).is_err())
+            .map(|fit| Row::of(&fit.all, |moment| moment.number))
+            .collect(self.heap)
     }
 
     // The rows whose last event is not above the watermark, in order.
     fn known_now(&self) -> Result<Vec<Fit>, AllocError> {
         let watermark = self.watermark();
-        let mut known = Vec::new(self.heap);
-        for fit in self.pattern.fits(self.heap, &self.counted, true)?.iter() {
-            if fit.last.time <= watermark {
-                known.push(*fit)?;
-            }
-        }
+        let mut known = self.fits()?;
+        known.retain(|fit| fit.last.time <= watermark);
         Ok(known)
     }
 
@@ -78,18 +73,18 @@ impl Knowing {
 
     // What is to be said when nothing more comes.
     pub fn finish(&self) -> Result<Said, AllocError> {
-        let fits = self.pattern.fits(self.heap, &self.counted, true)?;
-        let rows = self.news(&fits)?;
+        let rows = self.news(&self.fits()?)?;
         Ok(Said {
             rows,
             end: End::Over,
         })
     }
 
-    // How many rows of all events nothing but a never forbids.
-    pub fn forbidden(&self) -> Result<u64, AllocError> {
-        let with = self.pattern.fits(self.heap, &self.counted, true)?;
-        let without = self.pattern.fits(self.heap, &self.counted, false)?;
-        Ok(without.len().saturating_sub(with.len()) as u64)
+    // How many rows of all events nothing but a never forbids. The pattern has no nevers from then on.
+    pub fn forbidden(&mut self) -> Result<u64, AllocError> {
+        let with = self.fits()?.len();
+        self.pattern.forget_nevers();
+        let without = self.fits()?.len();
+        Ok(without.saturating_sub(with) as u64)
     }
 }

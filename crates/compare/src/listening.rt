@@ -1,18 +1,9 @@
 // The listener, told of one thing after the other.
 use crate::said::{End, Row, Said, UNTOUCHED};
 use crate::shapes::MOST_STEPS;
-use listener::{MEMORY_LONG, Told, step};
+use listener::{Call, MEMORY_LONG, Told, step};
 use std::alloc::{AllocError, Global};
 use timeline::Event;
-
-// What the listener can be told.
-const PATTERN: u64 = 0;
-
-const EVENT: u64 = 1;
-
-const END: u64 = 2;
-
-const NEXT: u64 = 3;
 
 // Where in its memory it says in which slot the ring begins.
 const START_AT: usize = 3;
@@ -37,32 +28,33 @@ impl Listening {
     // One act: a row that is told is put behind the others, and any other is the end.
     fn act(
         &mut self,
-        kind: u64,
+        call: Call,
         row: &[u64],
         rows: &mut Vec<Row>,
     ) -> Result<Option<End>, AllocError> {
         let mut numbers = [UNTOUCHED; MOST_STEPS];
-        match step(&mut self.memory, kind, row, &mut numbers) {
-            Told::Row(many) => {
+        let end = match step(&mut self.memory, u64::from(call), row, &mut numbers) {
+            Ok(Told::Row(many)) => {
                 rows.push(Row { many, numbers })?;
-                Ok(None)
+                return Ok(None);
             }
-            Told::Waits => Ok(Some(End::Waits)),
-            Told::Late => Ok(Some(End::Late)),
-            Told::Over => Ok(Some(End::Over)),
-            Told::No(number) => Ok(Some(End::Refused(number))),
-        }
+            Ok(Told::Waits) => End::Waits,
+            Ok(Told::Late) => End::Late,
+            Ok(Told::Over) => End::Over,
+            Err(refusal) => End::Refused(refusal),
+        };
+        Ok(Some(end))
     }
 
     // One thing that it is told, and all that it says then.
-    fn tell(&mut self, kind: u64, row: &[u64]) -> Result<Said, AllocError> {
+    fn tell(&mut self, call: Call, row: &[u64]) -> Result<Said, AllocError> {
         let mut rows = Vec::new(self.heap);
-        let mut ended = self.act(kind, row, &mut rows)?;
+        let mut ended = self.act(call, row, &mut rows)?;
         for _ in 0..MOST_ROWS {
             if let Some(end) = ended {
                 return Ok(Said { rows, end });
             }
-            ended = self.act(NEXT, &[], &mut rows)?;
+            ended = self.act(Call::Next, &[], &mut rows)?;
         }
         Ok(Said {
             rows,
@@ -73,7 +65,7 @@ impl Listening {
     // A new listener is given a pattern. If it takes it, its ring is made to begin at a slot, as if events had been held and forgotten.
     pub fn begin(&mut self, pattern: &[u64], start: u64) -> Result<Said, AllocError> {
         self.memory.fill(0);
-        let said = self.tell(PATTERN, pattern)?;
+        let said = self.tell(Call::Pattern, pattern)?;
         if said.end == End::Waits
             && let Some(place) = self.memory.get_mut(START_AT)
         {
@@ -83,10 +75,10 @@ impl Listening {
     }
 
     pub fn hear(&mut self, e: Event) -> Result<Said, AllocError> {
-        self.tell(EVENT, &[e.time, e.kind, e.who, e.value])
+        self.tell(Call::Event, &[e.time, e.kind, e.who, e.value])
     }
 
     pub fn finish(&mut self) -> Result<Said, AllocError> {
-        self.tell(END, &[])
+        self.tell(Call::End, &[])
     }
 }

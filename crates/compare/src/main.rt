@@ -4,12 +4,10 @@
 
 mod comparing;
 mod difference;
-mod growing;
 mod knowing;
 mod listening;
 mod making;
 mod meaning;
-mod random;
 mod said;
 mod shapes;
 mod tally;
@@ -19,9 +17,9 @@ use comparing::{Stop, compare};
 use files::{Failed, ending};
 use listening::Listening;
 use making::Case;
-use std::env;
 use std::process::ExitCode;
 use tally::Tally;
+use trials::numbers;
 
 // Which cases are gone through.
 #[derive(Clone, Copy)]
@@ -34,12 +32,12 @@ struct Task {
 fn run(rt: &HostRuntime, task: Task) -> Result<(), Failed> {
     let heap = rt.alloc();
     let mut listening = Listening::new(heap)?;
-    let mut tally = Tally::new();
+    let mut tally = Tally::default();
     for i in 0..task.count {
         let case = Case::make(heap, task.seed, task.first.saturating_add(i))?;
         match compare(heap, &case, &mut listening, &mut tally) {
             Ok(()) => (),
-            Err(Stop::Memory) => return Err(Failed::Memory),
+            Err(Stop::Memory(e)) => return Err(Failed::from(e)),
             Err(Stop::Differs(difference)) => {
                 difference.print(rt, &case)?;
                 return Err(Failed::Said);
@@ -50,19 +48,16 @@ fn run(rt: &HostRuntime, task: Task) -> Result<(), Failed> {
     Ok(())
 }
 
-fn number(word: Option<String>) -> Option<u64> {
-    word?.as_str().parse::<u64>().ok()
-}
-
 fn run_on_arguments(rt: &HostRuntime) -> Result<(), Failed> {
-    let mut args = env::args(rt)?;
-    let _program = args.next();
-    if let (Some(seed), Some(count)) = (number(args.next()), number(args.next())) {
-        let first = number(args.next()).unwrap_or(0);
-        return run(rt, Task { seed, count, first });
-    }
-    eprintln!(rt; "usage: compare SEED COUNT [CASE]")?;
-    Err(Failed::Said)
+    let (seed, count, first) = match *numbers(rt)?.as_slice() {
+        [seed, count] => (seed, count, 0),
+        [seed, count, first, ..] => (seed, count, first),
+        _ => {
+            eprintln!(rt; "usage: compare SEED COUNT [CASE]")?;
+            return Err(Failed::Said);
+        }
+    };
+    run(rt, Task { seed, count, first })
 }
 
 fn main(rt: HostRuntime) -> ExitCode {

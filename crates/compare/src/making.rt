@@ -1,14 +1,13 @@
 // A case made of a seed and its number: a pattern's row of numbers, and events.
-use crate::random::Random;
-use crate::shapes::{KINDS, NUMBERS, SPANS};
+use crate::shapes::{Field, KINDS, NUMBERS, SPANS};
 use crate::world::World;
 use std::alloc::{AllocError, Global};
 use timeline::Event;
+use trials::Random;
 
 // What is done to a row of numbers once it is made.
 #[derive(Clone, Copy)]
 pub enum Damage {
-    Whole,
     // One number is another.
     Changed,
     // Its end is cut off.
@@ -22,18 +21,14 @@ pub struct Case {
     pub seed: u64,
     pub number: u64,
     pub world: World,
-    pub damage: Damage,
+    pub damage: Option<Damage>,
     pub row: Vec<u64>,
     pub events: Vec<Event>,
     // Where the ring begins.
     pub start: u64,
 }
 
-// Fields and signs have the numbers 0, 1 and 2.
-const WHO: u64 = 0;
-
-const VALUE: u64 = 1;
-
+// Fields and signs have the numbers from 0 on.
 const FIELDS: u64 = 3;
 
 const SIGNS: u64 = 3;
@@ -73,9 +68,9 @@ impl Maker {
         if self.random.percent(4) {
             return self.random.one_of(&[0, NUMBERS - 1]);
         }
-        match field {
-            WHO => self.world.whos.one(&mut self.random),
-            VALUE => self.world.values.one(&mut self.random),
+        match Field::try_from(field) {
+            Ok(Field::Who) => self.world.whos.one(&mut self.random),
+            Ok(Field::Value) => self.world.values.one(&mut self.random),
             _ => self.world.times.one(&mut self.random),
         }
     }
@@ -94,12 +89,17 @@ impl Maker {
         [back, earlier, self.random.below(FIELDS)]
     }
 
-    fn push_tests(&mut self, row: &mut Vec<u64>, step: u64) -> Result<(), AllocError> {
-        let many = if self.random.percent(self.world.tests) {
-            self.random.one_of(&[1, 1, 1, 2, 2, 4])
+    // One of some numbers, so many times out of a hundred; else 0.
+    fn sometimes(&mut self, chance: u64, some: &[u64]) -> u64 {
+        if self.random.percent(chance) {
+            self.random.one_of(some)
         } else {
             0
-        };
+        }
+    }
+
+    fn push_tests(&mut self, row: &mut Vec<u64>, step: u64) -> Result<(), AllocError> {
+        let many = self.sometimes(self.world.tests, &[1, 1, 1, 2, 2, 4]);
         row.push(many)?;
         for _ in 0..many {
             let field = self.random.below(FIELDS);
@@ -111,11 +111,7 @@ impl Maker {
     }
 
     fn push_nevers(&mut self, row: &mut Vec<u64>, step: u64) -> Result<(), AllocError> {
-        let many = if self.random.percent(self.world.nevers) {
-            self.random.one_of(&[1, 2])
-        } else {
-            0
-        };
+        let many = self.sometimes(self.world.nevers, &[1, 2]);
         row.push(many)?;
         for _ in 0..many {
             row.push(self.world.kinds.one(&mut self.random))?;
@@ -135,7 +131,7 @@ impl Maker {
         Ok(row)
     }
 
-    fn damage(&mut self, row: &mut Vec<u64>) -> Result<Damage, AllocError> {
+    fn damage(&mut self, row: &mut Vec<u64>) -> Result<Option<Damage>, AllocError> {
         let at = self.random.below(row.len() as u64) as usize;
         let odd = self.random.one_of(&ODD);
         match self.random.below(25) {
@@ -143,17 +139,17 @@ impl Maker {
                 if let Some(number) = row.get_mut(at) {
                     *number = odd;
                 }
-                Ok(Damage::Changed)
+                Ok(Some(Damage::Changed))
             }
             1 => {
                 row.truncate(at);
-                Ok(Damage::Cut)
+                Ok(Some(Damage::Cut))
             }
             2 => {
                 row.extend_from_slice(&[odd, odd, odd])?;
-                Ok(Damage::Longer)
+                Ok(Some(Damage::Longer))
             }
-            _ => Ok(Damage::Whole),
+            _ => Ok(None),
         }
     }
 

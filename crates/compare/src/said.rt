@@ -1,52 +1,42 @@
 // What is said of one thing that the listener is told: rows, and how it ends.
-use crate::meaning::Fit;
 use crate::shapes::MOST_STEPS;
+use listener::Refusal;
 use std::alloc::Global;
 use std::fmt;
 
 // What stands in a lent row where nothing was written.
 pub const UNTOUCHED: u64 = u64::MAX;
 
-// A row by its events' numbers, and what stands behind them.
-#[derive(Clone, Copy, PartialEq, Eq)]
+// A row by its events' numbers, and what stands behind them: the whole lent row, so that a write behind the row shows.
+#[derive(Clone, Copy, Debug, PartialEq, Eq)]
 pub struct Row {
     pub many: u64,
     pub numbers: [u64; MOST_STEPS],
 }
 
 impl Row {
-    // The numbers from the left, as many as there is room for.
-    pub fn of(numbers: &[u64]) -> Row {
-        let mut row = [UNTOUCHED; MOST_STEPS];
-        for (place, number) in row.iter_mut().zip(numbers) {
-            *place = *number;
+    // The numbers of some things from the left, as many as there is room for.
+    pub fn of<T, F: Fn(&T) -> u64>(things: &[T], number: F) -> Row
+        requires { F.IsAlwaysCallable number }
+    {
+        let mut numbers = [UNTOUCHED; MOST_STEPS];
+        for (place, thing) in numbers.iter_mut().zip(things) {
+            *place = number(thing);
         }
         Row {
-            many: numbers.len() as u64,
-            numbers: row,
-        }
-    }
-
-    // A row that fits a pattern of so many steps.
-    pub fn fitting(fit: Fit, steps: usize) -> Row {
-        let mut row = [UNTOUCHED; MOST_STEPS];
-        for (place, moment) in row.iter_mut().zip(fit.all.iter().take(steps)) {
-            *place = moment.number;
-        }
-        Row {
-            many: steps as u64,
-            numbers: row,
+            many: things.len() as u64,
+            numbers,
         }
     }
 }
 
 // What comes behind the rows.
-#[derive(Clone, Copy, PartialEq, Eq)]
+#[derive(Clone, Copy, Debug, PartialEq, Eq)]
 pub enum End {
     Waits,
     Late,
     Over,
-    Refused(u64),
+    Refused(Refusal),
     // Rows without end.
     Endless,
 }
@@ -57,13 +47,13 @@ impl fmt::Display for End {
             End::Waits => write!(f, "waits"),
             End::Late => write!(f, "late"),
             End::Over => write!(f, "over"),
-            End::Refused(number) => write!(f, "refused {number}"),
+            End::Refused(refusal) => write!(f, "refused {}", u64::from(*refusal)),
             End::Endless => write!(f, "and so on"),
         }
     }
 }
 
-#[derive(Drop, PartialEq, Eq)]
+#[derive(Debug, Drop, PartialEq, Eq)]
 pub struct Said {
     pub rows: Vec<Row>,
     pub end: End,

@@ -1,5 +1,9 @@
-// Patterns as this program reads them from a row of numbers, on its own.
-use std::alloc::{AllocError, AllocFailed, Global};
+// Patterns as this program reads them from a row of numbers, on its own: it shares no line of it with the listener.
+ghost use Rattle.std.specs.Prelude.{◌≡◌};
+
+use std::alloc::{AllocError, Global};
+use std::slice;
+use thiserror::Error;
 
 // A pattern has one to six steps, each with up to four tests and two nevers, as each never has tests.
 pub const MOST_STEPS: usize = 6;
@@ -15,6 +19,15 @@ pub const KINDS: u64 = 1 << 16;
 
 pub const NUMBERS: u64 = 1 << 62;
 
+// Why no pattern was read.
+#[derive(Debug, Drop, Error)]
+pub enum Unread {
+    #[error("no pattern")]
+    NoPattern,
+    #[error(transparent)]
+    Memory(#[from(alloc)] AllocError),
+}
+
 #[derive(Clone, Copy)]
 pub enum Field {
     Who,
@@ -22,11 +35,37 @@ pub enum Field {
     Time,
 }
 
+impl TryFrom<u64> for Field {
+    type Error = Unread;
+
+    fn try_from(number: u64) -> Result<Field, Unread> {
+        match number {
+            0 => Ok(Field::Who),
+            1 => Ok(Field::Value),
+            2 => Ok(Field::Time),
+            _ => Err(Unread::NoPattern),
+        }
+    }
+}
+
 #[derive(Clone, Copy)]
 pub enum Sign {
     Equal,
     Below,
     NotBelow,
+}
+
+impl TryFrom<u64> for Sign {
+    type Error = Unread;
+
+    fn try_from(number: u64) -> Result<Sign, Unread> {
+        match number {
+            0 => Ok(Sign::Equal),
+            1 => Ok(Sign::Below),
+            2 => Ok(Sign::NotBelow),
+            _ => Err(Unread::NoPattern),
+        }
+    }
 }
 
 // What a field is compared with.
@@ -64,37 +103,16 @@ pub struct Pattern {
     pub steps: Vec<Step>,
 }
 
-// Why no pattern was read.
-#[derive(Clone, Copy)]
-pub enum Unread {
-    NoPattern,
-    Memory,
-}
-
-impl From<AllocError> for Unread {
-    fn from(_e: AllocError) -> Unread {
-        Unread::Memory
-    }
-}
-
-impl<T: Drop> From<AllocFailed<T>> for Unread {
-    fn from(_e: AllocFailed<T>) -> Unread {
-        Unread::Memory
-    }
-}
-
 // Reads a row of numbers from the left; behind its end stand zeros.
 #[derive(Drop)]
 struct Reader<'a> {
-    row: &'a [u64],
-    at: usize,
+    heap: Global,
+    numbers: slice::Iter<'a, u64>,
 }
 
 impl Reader<'_> {
     fn number(&mut self) -> u64 {
-        let number = self.row.get(self.at).copied().unwrap_or(0);
-        self.at = self.at.saturating_add(1);
-        number
+        self.numbers.next().copied().unwrap_or(0)
     }
 
     fn below(&mut self, bound: u64) -> Result<u64, Unread> {
@@ -106,24 +124,6 @@ impl Reader<'_> {
         }
     }
 
-    fn field(&mut self) -> Result<Field, Unread> {
-        match self.number() {
-            0 => Ok(Field::Who),
-            1 => Ok(Field::Value),
-            2 => Ok(Field::Time),
-            _ => Err(Unread::NoPattern),
-        }
-    }
-
-    fn sign(&mut self) -> Result<Sign, Unread> {
-        match self.number() {
-            0 => Ok(Sign::Equal),
-            1 => Ok(Sign::Below),
-            2 => Ok(Sign::NotBelow),
-            _ => Err(Unread::NoPattern),
-        }
-    }
-
     // Three numbers: 0 and one that isn't looked at, then a number; or any other, then the earlier step and its field.
     fn other(&mut self, step: usize) -> Result<Other, Unread> {
         if self.number() == 0 {
@@ -131,60 +131,78 @@ impl Reader<'_> {
             return Ok(Other::Number(self.below(NUMBERS)?));
         }
         let earlier = self.below(step as u64)?;
-        Ok(Other::Earlier(earlier as usize, self.field()?))
+        let field = Field::try_from(self.number())?;
+        Ok(Other::Earlier(earlier as usize, field))
     }
 
-    fn tests(&mut self, heap: Global, step: usize) -> Result<Vec<Test>, Unread> {
-        let mut tests = Vec::new(heap);
-        for _ in 0..self.below(MOST_TESTS + 1)? {
-            let field = self.field()?;
-            let sign = self.sign()?;
-            let other = self.other(step)?;
-            tests.push(Test { field, sign, other })?;
-        }
-        Ok(tests)
+    fn test(&mut self, step: usize) -> Result<Test, Unread> {
+        let field = Field::try_from(self.number())?;
+        let sign = Sign::try_from(self.number())?;
+        let other = self.other(step)?;
+        Ok(Test { field, sign, other })
     }
 
-    fn nevers(&mut self, heap: Global, step: usize) -> Result<Vec<Never>, Unread> {
-        let mut nevers = Vec::new(heap);
-        for _ in 0..self.below(MOST_NEVERS + 1)? {
-            let kind = self.below(KINDS)?;
-            let tests = self.tests(heap, step)?;
-            nevers.push(Never { kind, tests })?;
-        }
-        Ok(nevers)
+    fn tests(&mut self, step: usize) -> Result<Vec<Test>, Unread> {
+        let many = self.below(MOST_TESTS + 1)?;
+        let heap = self.heap;
+        (0..many).map(|_| self.test(step)).try_collect(heap)
     }
 
-    fn steps(&mut self, heap: Global) -> Result<Vec<Step>, Unread> {
+    fn never(&mut self, step: usize) -> Result<Never, Unread> {
+        let kind = self.below(KINDS)?;
+        let tests = self.tests(step)?;
+        Ok(Never { kind, tests })
+    }
+
+    fn nevers(&mut self, step: usize) -> Result<Vec<Never>, Unread> {
+        let many = self.below(MOST_NEVERS + 1)?;
+        let heap = self.heap;
+        (0..many).map(|_| self.never(step)).try_collect(heap)
+    }
+
+    fn step(&mut self, step: usize) -> Result<Step, Unread> {
+        let kind = self.below(KINDS)?;
+        let tests = self.tests(step)?;
+        let nevers = self.nevers(step)?;
+        Ok(Step {
+            kind,
+            tests,
+            nevers,
+        })
+    }
+
+    fn steps(&mut self) -> Result<Vec<Step>, Unread> {
         let many = self.below(MOST_STEPS as u64 + 1)?;
         if many == 0 {
             return Err(Unread::NoPattern);
         }
-        let mut steps = Vec::new(heap);
-        for step in 0..many as usize {
-            let kind = self.below(KINDS)?;
-            let tests = self.tests(heap, step)?;
-            let nevers = self.nevers(heap, step)?;
-            steps.push(Step {
-                kind,
-                tests,
-                nevers,
-            })?;
-        }
-        Ok(steps)
+        let heap = self.heap;
+        (0..many as usize)
+            .map(|step| self.step(step))
+            .try_collect(heap)
     }
 }
 
 impl Pattern {
     pub fn read(heap: Global, row: &[u64]) -> Result<Pattern, Unread> {
-        let mut reader = Reader { row, at: 0 };
+        let mut reader = Reader {
+            heap,
+            numbers: row.iter(),
+        };
         let within = reader.below(SPANS)?;
         let late = reader.below(SPANS)?;
-        let steps = reader.steps(heap)?;
+        let steps = reader.steps()?;
         Ok(Pattern {
             within,
             late,
             steps,
         })
+    }
+
+    // The same without its nevers.
+    pub fn forget_nevers(&mut self) {
+        for step in self.steps.iter_mut() {
+            step.nevers.clear();
+        }
     }
 }

@@ -1,82 +1,42 @@
 // What happened in all cases, counted.
-use crate::making::{Case, Damage};
+use crate::making::Case;
 use crate::said::{End, Said};
 use crate::shapes::MOST_STEPS;
-use crate::world::Scale;
 use std::fmt;
+use trials::{Counts, add};
 
-#[derive(Drop)]
+#[derive(Default, Drop)]
 pub struct Tally {
-    pub cases: u64,
-    pub no_pattern: u64,
-    pub events: u64,
-    pub late: u64,
-    pub rows: u64,
+    cases: u64,
+    no_pattern: u64,
+    events: u64,
+    late: u64,
+    rows: u64,
     // Rows of patterns of one to six steps, and cases with such.
-    pub rows_of: [u64; MOST_STEPS],
-    pub cases_of: [u64; MOST_STEPS],
+    rows_of: Counts<MOST_STEPS>,
+    cases_of: Counts<MOST_STEPS>,
     // Rows that nothing but a never forbade, and cases with such.
-    pub forbidden: u64,
-    pub guarded: u64,
+    forbidden: u64,
+    guarded: u64,
     // Rows that weren't known before nothing more came.
-    pub at_end: u64,
-    // Windows and lateness of 0, small and huge.
-    pub windows: [u64; 3],
-    pub latenesses: [u64; 3],
-    // Rows of numbers that were changed, cut and made longer.
-    pub damages: [u64; 3],
+    at_end: u64,
+    // Windows and lateness, by their scales.
+    windows: Counts<3>,
+    latenesses: Counts<3>,
+    // Rows of numbers that were damaged, by the damage.
+    damages: Counts<3>,
     // Cases whose ring begins near its end.
-    pub seams: u64,
-}
-
-fn add(count: &mut u64, more: u64) {
-    *count = count.saturating_add(more);
-}
-
-fn add_at(counts: &mut [u64], place: usize, more: u64) {
-    if let Some(count) = counts.get_mut(place) {
-        add(count, more);
-    }
-}
-
-fn scale_place(scale: Scale) -> usize {
-    match scale {
-        Scale::Zero => 0,
-        Scale::Small => 1,
-        Scale::Huge => 2,
-    }
+    seams: u64,
 }
 
 impl Tally {
-    pub fn new() -> Tally {
-        Tally {
-            cases: 0,
-            no_pattern: 0,
-            events: 0,
-            late: 0,
-            rows: 0,
-            rows_of: [0; MOST_STEPS],
-            cases_of: [0; MOST_STEPS],
-            forbidden: 0,
-            guarded: 0,
-            at_end: 0,
-            windows: [0; 3],
-            latenesses: [0; 3],
-            damages: [0; 3],
-            seams: 0,
-        }
-    }
-
     // A case as it was made.
     pub fn count_case(&mut self, case: &Case) {
         add(&mut self.cases, 1);
-        add_at(&mut self.windows, scale_place(case.world.window), 1);
-        add_at(&mut self.latenesses, scale_place(case.world.lateness), 1);
-        match case.damage {
-            Damage::Whole => (),
-            Damage::Changed => add_at(&mut self.damages, 0, 1),
-            Damage::Cut => add_at(&mut self.damages, 1, 1),
-            Damage::Longer => add_at(&mut self.damages, 2, 1),
+        self.windows.add(case.world.window as usize, 1);
+        self.latenesses.add(case.world.lateness as usize, 1);
+        if let Some(damage) = case.damage {
+            self.damages.add(damage as usize, 1);
         }
         if case.start > 0 {
             add(&mut self.seams, 1);
@@ -104,19 +64,11 @@ impl Tally {
     pub fn count_rows(&mut self, steps: usize, rows: u64, forbidden: u64) {
         let place = steps.saturating_sub(1);
         add(&mut self.rows, rows);
-        add_at(&mut self.rows_of, place, rows);
-        add_at(&mut self.cases_of, place, rows.min(1));
+        self.rows_of.add(place, rows);
+        self.cases_of.add(place, rows.min(1));
         add(&mut self.forbidden, forbidden);
         add(&mut self.guarded, forbidden.min(1));
     }
-}
-
-// Numbers, with a space in front of each.
-fn write_all<W: fmt::Write>(f: &mut fmt::Formatter<W>, counts: &[u64]) -> fmt::Result {
-    for count in counts {
-        write!(f, " {count}")?;
-    }
-    Ok(())
 }
 
 impl fmt::Display for Tally {
@@ -126,21 +78,25 @@ impl fmt::Display for Tally {
             "{} cases, {} events, {} rows, {} late, {} no pattern: no difference",
             self.cases, self.events, self.rows, self.late, self.no_pattern
         )?;
-        write!(f, "\nrows of one to six steps:")?;
-        write_all(f, &self.rows_of)?;
-        write!(f, "; cases with such:")?;
-        write_all(f, &self.cases_of)?;
+        write!(
+            f,
+            "\nrows of one to six steps:{}; cases with such:{}",
+            self.rows_of, self.cases_of
+        )?;
         write!(
             f,
             "\nrows known at the end only: {}; forbidden by a never: {} in {} cases",
             self.at_end, self.forbidden, self.guarded
         )?;
-        write!(f, "\ncases with a window of 0, small, huge:")?;
-        write_all(f, &self.windows)?;
-        write!(f, "; lateness:")?;
-        write_all(f, &self.latenesses)?;
-        write!(f, "\nrows of numbers changed, cut, longer:")?;
-        write_all(f, &self.damages)?;
-        write!(f, "; rings over their seam: {}", self.seams)
+        write!(
+            f,
+            "\ncases with a window of 0, small, huge:{}; lateness:{}",
+            self.windows, self.latenesses
+        )?;
+        write!(
+            f,
+            "\nrows of numbers changed, cut, longer:{}; rings over their seam: {}",
+            self.damages, self.seams
+        )
     }
 }

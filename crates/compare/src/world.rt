@@ -1,6 +1,6 @@
 // From what the numbers of a case are drawn: few of each, so that rows do occur, some of them at their limits.
-use crate::random::Random;
 use crate::shapes::{KINDS, MOST_STEPS, NUMBERS, SPANS};
+use trials::Random;
 
 // So many neighbouring numbers.
 #[derive(Clone, Copy)]

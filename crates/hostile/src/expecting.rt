@@ -4,44 +4,33 @@ use crate::layout::{
     START, UPTO, WITHIN,
 };
 use crate::mirror::{Mirror, Phase};
+use listener::{Call, Refusal};
 use patterns::{PATTERN_WORDS, keep};
 use timeline::Event;
 
-// The refusals.
-pub const MISFIT: u64 = 0;
+// Whether a row is looked for from the beginning, or behind one that was told.
+#[derive(Clone, Copy, PartialEq, Eq)]
+pub enum Search {
+    Begins,
+    GoesOn,
+}
 
-const NO_PATTERN: u64 = 1;
-
-const OUT_OF_TURN: u64 = 2;
-
-const NO_ROOM: u64 = 8;
-
-// What it can be told.
-pub const PATTERN: u64 = 0;
-
-pub const EVENT: u64 = 1;
-
-pub const END: u64 = 2;
-
-pub const NEXT: u64 = 3;
-
-#[derive(Clone, Copy)]
-pub enum Answer {
-    Refused(u64),
+#[derive(Clone, Copy, PartialEq, Eq)]
+pub enum Expected {
     Waits,
     Late,
-    // A row; and when there is none left, it waits, or is over.
-    RowOrWaits,
-    RowOrOver,
+    // A row; and when there is none left, this phase.
+    RowOr(Search, Phase),
 }
 
 fn event_in(row: &[u64], heard: u64) -> Event {
+    let [time, kind, who, value] = [0, 1, 2, 3].map(|i: usize| row.get(i).copied().unwrap_or(0));
     Event {
         heard,
-        time: row.first().copied().unwrap_or(0),
-        kind: row.get(1).copied().unwrap_or(0),
-        who: row.get(2).copied().unwrap_or(0),
-        value: row.get(3).copied().unwrap_or(0),
+        time,
+        kind,
+        who,
+        value,
     }
 }
 
@@ -50,70 +39,57 @@ fn is_event(e: Event) -> bool {
 }
 
 fn is_before(a: Event, b: Event) -> bool {
-    a.time < b.time || a.time == b.time && a.heard < b.heard
+    (a.time, a.heard) < (b.time, b.heard)
 }
 
 impl Mirror {
     fn add(&mut self, at: usize, more: u64) {
-        let number = self.get(at).saturating_add(more);
-        self.set(at, number);
+        self.set(at, self.get(at).saturating_add(more));
     }
 
     fn set_places(&mut self, first: u64) {
-        for i in 0..MOST_STEPS {
-            self.set(PLACES.saturating_add(i), 0);
-        }
-        self.set(PLACES, first);
+        let mut places = [0; MOST_STEPS];
+        places[0] = first;
+        self.lay(PLACES, &places);
     }
 
     fn enter(&mut self, phase: Phase) {
-        self.set(PHASE, phase.number());
+        self.set(PHASE, u64::from(phase));
     }
 
-    // The pattern's words.
-    fn lay(&mut self, words: &[u64]) {
-        for (i, word) in words.iter().enumerate() {
-            self.set(WITHIN.saturating_add(i), *word);
-        }
-    }
-
-    fn begin(&mut self, row: &[u64]) -> Answer {
+    fn begin(&mut self, row: &[u64]) -> Result<Expected, Refusal> {
         let mut words = [0; PATTERN_WORDS];
         if keep(row, &mut words).is_err() {
-            return Answer::Refused(NO_PATTERN);
+            return Err(Refusal::NoPattern);
         }
-        for at in PHASE..WITHIN {
-            self.set(at, 0);
-        }
-        self.lay(&words);
+        self.lay(PHASE, &[0; WITHIN]);
+        self.lay(WITHIN, &words);
         self.enter(Phase::Waiting);
-        Answer::Waits
+        Ok(Expected::Waits)
     }
 
-    // Puts an event behind all that aren't behind it, from the end.
+    // Puts an event behind all that aren't behind it, looked for from the end.
     fn hold(&mut self, e: Event) {
         let len = self.get(LEN);
-        let mut place = len;
-        for position in (0..len).rev() {
-            let other = self.event(position);
-            if !is_before(e, other) {
-                break;
-            }
-            self.set_event(place, other);
-            place = position;
+        let before = (0..len)
+            .rev()
+            .find(|position| !is_before(e, self.event(*position)));
+        let place = before.map_or(0, |position| position.saturating_add(1));
+        for position in (place..len).rev() {
+            self.set_event(position.saturating_add(1), self.event(position));
         }
         self.set_event(place, e);
         self.add(LEN, 1);
     }
 
-    fn come(&mut self, e: Event) -> Answer {
+    fn come(&mut self, e: Event) -> Result<Expected, Refusal> {
         if !is_event(e) {
-            return Answer::Refused(OUT_OF_TURN);
+            return Err(Refusal::OutOfTurn);
         }
         let late = self.get(LATE);
         if e.time < self.get(LATEST).saturating_sub(late) {
             self.add(COUNT, 1);
-            return Answer::Late;
+            return Ok(Expected::Late);
         }
         let latest = self.get(LATEST).max(e.time);
         let mark = latest.saturating_sub(late);
@@ -122,13 +98,8 @@ impl Mirror {
         let stays = self.get(LEN).saturating_sub(stale);
         if stays > ROOM || named && stays == ROOM {
             self.enter(Phase::Over);
-            return Answer::Refused(NO_ROOM);
+            return Err(Refusal::NoRoom);
         }
-        self.count(e, named, latest, stale, mark)
-    }
-
-    // An event counts.
-    fn count(&mut self, e: Event, named: bool, latest: u64, stale: u64, mark: u64) -> Answer {
         self.add(COUNT, 1);
         self.set(LATEST, latest);
         self.set(STALE, stale);
@@ -136,31 +107,32 @@ impl Mirror {
             self.hold(e);
         }
         let known = self.get(KNOWN);
-        let upto = self.run_below(known, mark.saturating_add(1));
-        self.set(UPTO, upto);
+        self.set(UPTO, self.run_below(known, mark.saturating_add(1)));
         self.set_places(known);
         self.enter(Phase::Telling);
-        Answer::RowOrWaits
+        Ok(Expected::RowOr(Search::Begins, Phase::Waiting))
     }
 
-    fn finish(&mut self) -> Answer {
+    fn finish(&mut self) -> Expected {
         let len = self.get(LEN);
         self.set(UPTO, len);
         self.set(STALE, len);
         self.set_places(self.get(KNOWN));
         self.enter(Phase::Ending);
-        Answer::RowOrOver
+        Expected::RowOr(Search::Begins, Phase::Over)
     }
 
-    // What is answered to a call that fits; the memory is then as it is while rows are told, where they are.
-    pub fn expect(&mut self, kind: u64, row: &[u64]) -> Answer {
-        match (kind, self.standing()) {
-            (PATTERN, Some(Phase::New)) => self.begin(row),
-            (EVENT, Some(Phase::Waiting)) => self.come(event_in(row, self.get(COUNT))),
-            (END, Some(Phase::Waiting)) => self.finish(),
-            (NEXT, Some(Phase::Telling)) => Answer::RowOrWaits,
-            (NEXT, Some(Phase::Ending)) => Answer::RowOrOver,
-            _ => Answer::Refused(OUT_OF_TURN),
+    // What is answered to a call that is taken up; the memory is then as it is while rows are told, where they are.
+    pub fn expect(&mut self, call: Call, row: &[u64]) -> Result<Expected, Refusal> {
+        match (call, self.standing()) {
+            (Call::Pattern, Some(Phase::New)) => self.begin(row),
+            (Call::Event, Some(Phase::Waiting)) => self.come(event_in(row, self.get(COUNT))),
+            (Call::End, Some(Phase::Waiting)) => Ok(self.finish()),
+            (Call::Next, Some(Phase::Telling)) => {
+                Ok(Expected::RowOr(Search::GoesOn, Phase::Waiting))
+            }
+            (Call::Next, Some(Phase::Ending)) => Ok(Expected::RowOr(Search::GoesOn, Phase::Over)),
+            _ => Err(Refusal::OutOfTurn),
         }
     }
 
@@ -168,7 +140,7 @@ impl Mirror {
     pub fn settle(&mut self, phase: Phase) {
         let stale = self.get(STALE);
         for position in 0..stale {
-            self.set_event(position, event_in(&[], 0));
+            self.set_event(position, Event::NOTHING);
         }
         self.set(START, self.get(START).saturating_add(stale) % SLOTS);
         self.set(LEN, self.get(LEN).saturating_sub(stale));

@@ -1,12 +1,12 @@
 // A listener's memory and its mirror, and how both are damaged.
 use crate::layout::{
-    COUNT, KNOWN, LATEST, LEN, MOST_STEPS, NUMBERS, PHASE, PLACES, RING, ROOM, SLOT_LONG, SLOTS,
+    COUNT, KNOWN, LATEST, LEN, NUMBERS, PHASE, PLACES, RING, ROOM, SLOT_LONG, SLOTS,
     STALE, START, STEPS, UPTO, WITHIN,
 };
 use crate::mirror::{Mirror, Phase};
-use crate::random::Random;
 use listener::MEMORY_LONG;
 use std::alloc::{AllocError, Global};
+use trials::Random;
 
 // More events than so many are held with patterns of one step only: else the search for rows among garbage could take for ever.
 const MANY: u64 = 14;
@@ -60,8 +60,10 @@ impl Pair {
     }
 
     fn refill(&mut self, random: &mut Random) {
-        for at in 0..MEMORY_LONG {
-            self.set(at, random.below(SMALL));
+        let words = self.memory.iter_mut().zip(self.mirror.words.iter_mut());
+        for (word, same) in words {
+            *word = random.below(SMALL);
+            *same = *word;
         }
     }
 
@@ -115,8 +117,8 @@ impl Pair {
         self.set(KNOWN, random.below(most));
         self.set(UPTO, random.below(most));
         self.set(STALE, random.below(most));
-        for i in 0..MOST_STEPS {
-            self.set(PLACES.saturating_add(i), random.below(most));
+        for at in PLACES..WITHIN {
+            self.set(at, random.below(most));
         }
     }
 

@@ -1,33 +1,25 @@
 // Whether the listener's answer, the lent row and the memory are as they have to be.
-use crate::expecting::Answer;
+use crate::expecting::{Expected, Search};
 use crate::layout::{PLACES, UPTO};
 use crate::mirror::{Mirror, Phase};
-use listener::Told;
-use std::fmt;
+use crate::trying::Answer;
+use listener::{Refusal, Told};
+use thiserror::Error;
 
 // What is wrong.
-#[derive(Clone, Copy)]
+#[derive(Clone, Copy, Debug, Error)]
 pub enum Wrong {
+    #[error("the answer is wrong")]
     Answer,
     // A row that isn't of held events at the positions that the memory has.
+    #[error("the row is none")]
     Row,
+    #[error("the lent row is wrong")]
     Out,
-    // A word of the memory: which, what it is and what it has to be.
-    Word(usize, u64, u64),
-    // A memory of another length was changed.
+    #[error("word {at} is {is} and has to be {right}")]
+    Word { at: usize, is: u64, right: u64 },
+    #[error("a memory of another length was changed")]
     Misfit,
-}
-
-impl fmt::Display for Wrong {
-    fn fmt<W: fmt::Write>(&self, f: &mut fmt::Formatter<W>) -> fmt::Result {
-        match self {
-            Wrong::Answer => write!(f, "the answer is wrong"),
-            Wrong::Row => write!(f, "the row is none"),
-            Wrong::Out => write!(f, "the lent row is wrong"),
-            Wrong::Word(at, is, right) => write!(f, "word {at} is {is} and has to be {right}"),
-            Wrong::Misfit => write!(f, "a memory of another length was changed"),
-        }
-    }
 }
 
 // At which level of the search a step's position is chosen: the last step's first.
@@ -47,33 +39,25 @@ fn position_of(memory: &[u64], step: usize, steps: usize) -> Option<u64> {
     }
 }
 
-fn right(is_right: bool) -> Result<(), Wrong> {
-    if is_right { Ok(()) } else { Err(Wrong::Answer) }
-}
-
 impl Mirror {
-    // The event of a step of a row that was told. Of a search from its beginning it is of the step's kind, and not before a position.
-    fn number_told(&self, step: usize, position: u64, least: Option<u64>) -> Option<u64> {
-        if position >= self.get(UPTO) {
-            return None;
-        }
+    // The event of a step of a row that was told. Of a search from its beginning it is of the step's kind, and not before a position; behind
+    // one that goes on there may be garbage.
+    fn number_told(&self, search: Search, step: usize, position: u64, least: u64) -> Option<u64> {
         let e = self.event(position);
-        if let Some(least) = least
-            && (position < least || e.kind != self.kind_of(step))
-        {
-            return None;
-        }
-        Some(e.heard)
+        let right = match search {
+            Search::Begins => position >= least && e.kind == self.kind_of(step),
+            Search::GoesOn => true,
+        };
+        (right && position < self.get(UPTO)).then_some(e.heard)
     }
 
-    // The lent row with a row that was told, by the positions that the memory has then. A search that goes on may have garbage behind it.
-    fn row_told(&self, memory: &[u64], out: &mut [u64], anew: bool) -> Option<()> {
+    // The lent row with a row that was told, by the positions that the memory has then.
+    fn row_told(&self, search: Search, memory: &[u64], out: &mut [u64]) -> Option<()> {
         let steps = self.steps();
-        let mut least = 0u64;
+        let mut least = 0;
         for (step, place) in out.iter_mut().enumerate().take(steps) {
             let position = position_of(memory, step, steps)?;
-            let from = if anew { Some(least) } else { None };
-            *place = self.number_told(step, position, from)?;
+            *place = self.number_told(search, step, position, least)?;
             least = position.saturating_add(1);
         }
         Some(())
@@ -81,77 +65,60 @@ impl Mirror {
 
     // The same positions as the memory's, as many as there are levels.
     fn take_places(&mut self, memory: &[u64]) {
-        for level in 0..self.steps() {
-            let at = PLACES.saturating_add(level);
-            self.set(at, memory.get(at).copied().unwrap_or(0));
+        if let Some(places) = memory.get(PLACES..PLACES.saturating_add(self.steps())) {
+            self.lay(PLACES, places);
         }
     }
 
     // A row was told: what the lent row has to be then.
     fn judge_row(
         &mut self,
-        answer: Answer,
+        search: Search,
         many: u64,
         memory: &[u64],
         out: &mut [u64],
-        anew: bool,
     ) -> Result<(), Wrong> {
-        let may_tell = matches!(answer, Answer::RowOrWaits | Answer::RowOrOver);
-        if !may_tell {
-            return Err(Wrong::Answer);
-        }
         if many == 0 || many != self.steps() as u64 {
             return Err(Wrong::Row);
         }
-        let Some(()) = self.row_told(memory, out, anew) else {
-            return Err(Wrong::Row);
-        };
+        self.row_told(search, memory, out).ok_or(Wrong::Row)?;
         self.take_places(memory);
-        Ok(())
-    }
-
-    // All rows were told, and then this.
-    fn judge_settled(&mut self, may_settle: bool, phase: Phase) -> Result<(), Wrong> {
-        if !may_settle {
-            return Err(Wrong::Answer);
-        }
-        self.settle(phase);
         Ok(())
     }
 
     // What the lent row has to be, and the memory as far as it follows from the answer.
     pub fn judge(
         &mut self,
-        answer: Answer,
-        told: Told,
+        expected: Result<Expected, Refusal>,
+        told: Answer,
         memory: &[u64],
         out: &mut [u64],
-        anew: bool,
     ) -> Result<(), Wrong> {
-        match told {
-            Told::Row(many) => self.judge_row(answer, many, memory, out, anew),
-            Told::Waits => {
-                if matches!(answer, Answer::Waits) {
-                    return Ok(());
-                }
-                self.judge_settled(matches!(answer, Answer::RowOrWaits), Phase::Waiting)
+        match (told, expected) {
+            (Ok(Told::Row(many)), Ok(Expected::RowOr(search, _))) => {
+                self.judge_row(search, many, memory, out)
             }
-            Told::Over => self.judge_settled(matches!(answer, Answer::RowOrOver), Phase::Over),
-            Told::Late => right(matches!(answer, Answer::Late)),
-            Told::No(number) => match answer {
-                Answer::Refused(other) => right(number == other),
-                _ => Err(Wrong::Answer),
-            },
+            (Ok(Told::Waits), Ok(Expected::RowOr(_, phase @ Phase::Waiting)))
+            | (Ok(Told::Over), Ok(Expected::RowOr(_, phase @ Phase::Over))) => {
+                self.settle(phase);
+                Ok(())
+            }
+            (Ok(Told::Waits), Ok(Expected::Waits)) | (Ok(Told::Late), Ok(Expected::Late)) => Ok(()),
+            (Err(refusal), Err(right)) if refusal == right => Ok(()),
+            _ => Err(Wrong::Answer),
         }
     }
 
     // Whether so many words of a memory are the same as here.
     pub fn same(&self, memory: &[u64], many: usize) -> Result<(), Wrong> {
-        for (at, (is, right)) in memory.iter().zip(self.words.iter()).enumerate().take(many) {
-            if *is != *right {
-                return Err(Wrong::Word(at, *is, *right));
-            }
+        let mut words = memory.iter().zip(self.words.iter()).take(many).enumerate();
+        match words.find(|(_, (is, right))| is != right) {
+            Some((at, (is, right))) => Err(Wrong::Word {
+                at,
+                is: *is,
+                right: *right,
+            }),
+            None => Ok(()),
         }
-        Ok(())
     }
 }

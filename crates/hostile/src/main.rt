@@ -8,64 +8,71 @@ mod harming;
 mod judging;
 mod layout;
 mod mirror;
-mod random;
 mod tally;
 mod trying;
 
-use calls::Call;
+use calls::{Maker, Trial};
 use files::{Failed, ending, line};
 use harming::Pair;
 use judging::Wrong;
 use layout::WITHIN;
 use listener::MEMORY_LONG;
-use random::Random;
-use std::env;
 use std::process::ExitCode;
 use tally::Tally;
+use trials::numbers;
 use trying::{Stop, tried};
 
-// What is wrong at a call, and all that it was called with; the memory follows from the seed.
-fn print_wrong(
-    rt: &HostRuntime,
+// Which call of which seed it is, what it is made with, and how the memory begins; the rest of the memory follows from the seed.
+#[derive(Drop)]
+struct Attempt {
     seed: u64,
     number: u64,
-    call: &Call,
-    front: &[u64],
-    wrong: Wrong,
-) -> Result<(), Failed> {
-    let heap = rt.alloc();
-    let kind = call.kind;
-    let front = line(heap, front)?;
-    let row = line(heap, &call.row)?;
-    let out = line(heap, &call.out)?;
-    println!(rt; "seed {seed}, call {number}: {wrong}")?;
-    println!(rt; "the memory began: {front}")?;
-    println!(rt; "kind: {kind}")?;
-    println!(rt; "row: {row}")?;
-    println!(rt; "lent row: {out}")?;
-    Err(Failed::Said)
+    trial: Trial,
+    front: Vec<u64>,
+}
+
+impl Attempt {
+    fn print(&self, rt: &HostRuntime, wrong: Wrong) -> Result<(), Failed> {
+        let heap = rt.alloc();
+        let front = line(heap, &self.front)?;
+        let row = line(heap, &self.trial.row)?;
+        let out = line(heap, &self.trial.out)?;
+        println!(rt; "seed {}, call {}: {wrong}", self.seed, self.number)?;
+        println!(rt; "the memory began: {front}")?;
+        println!(rt; "kind: {}", self.trial.kind)?;
+        println!(rt; "row: {row}")?;
+        println!(rt; "lent row: {out}")?;
+        Ok(())
+    }
 }
 
 fn run(rt: &HostRuntime, seed: u64, count: u64) -> Result<(), Failed> {
     let heap = rt.alloc();
-    let mut random = Random::new(seed);
+    let mut maker = Maker::new(heap, seed);
     let mut pair = Pair::new(heap)?;
-    let mut tally = Tally::new();
+    let mut tally = Tally::default();
     for number in 0..count {
-        pair.prepare(&mut random);
-        let call = Call::draw(heap, &mut random, &pair.mirror)?;
-        let front: Vec<u64> = pair
-            .mirror
-            .words
-            .iter()
-            .take(WITHIN)
-            .copied()
-            .collect(heap)?;
+        pair.prepare(&mut maker.random);
+        let attempt = Attempt {
+            seed,
+            number,
+            trial: maker.trial(&pair.mirror)?,
+            front: pair
+                .mirror
+                .words
+                .iter()
+                .take(WITHIN)
+                .copied()
+                .collect(heap)?,
+        };
         tally.count_call(pair.mirror.standing());
-        match tried(heap, &mut pair, &call, number) {
+        match tried(heap, &mut pair, &attempt.trial, number) {
             Ok(told) => tally.count_answer(told),
-            Err(Stop::Memory) => return Err(Failed::Memory),
-            Err(Stop::Wrong(wrong)) => return print_wrong(rt, seed, number, &call, &front, wrong),
+            Err(Stop::Memory(e)) => return Err(Failed::from(e)),
+            Err(Stop::Wrong(wrong)) => {
+                attempt.print(rt, wrong)?;
+                return Err(Failed::Said);
+            }
         }
     }
     if let Err(wrong) = pair.mirror.same(&pair.memory, MEMORY_LONG) {
@@ -76,18 +83,12 @@ fn run(rt: &HostRuntime, seed: u64, count: u64) -> Result<(), Failed> {
     Ok(())
 }
 
-fn number(word: Option<String>) -> Option<u64> {
-    word?.as_str().parse::<u64>().ok()
-}
-
 fn run_on_arguments(rt: &HostRuntime) -> Result<(), Failed> {
-    let mut args = env::args(rt)?;
-    let _program = args.next();
-    if let (Some(seed), Some(count)) = (number(args.next()), number(args.next())) {
-        return run(rt, seed, count);
-    }
-    eprintln!(rt; "usage: hostile SEED COUNT")?;
-    Err(Failed::Said)
+    let [seed, count, ..] = *numbers(rt)?.as_slice() else {
+        eprintln!(rt; "usage: hostile SEED COUNT")?;
+        return Err(Failed::Said);
+    };
+    run(rt, seed, count)
 }
 
 fn main(rt: HostRuntime) -> ExitCode {

@@ -12,26 +12,30 @@ pub enum Phase {
     Over,
 }
 
-impl Phase {
-    fn numbered(number: u64) -> Option<Phase> {
+pub const PHASES: usize = 5;
+
+// No phase has this number.
+#[derive(Clone, Copy)]
+pub struct NoPhase(pub u64);
+
+impl TryFrom<u64> for Phase {
+    type Error = NoPhase;
+
+    fn try_from(number: u64) -> Result<Phase, NoPhase> {
         match number {
-            0 => Some(Phase::New),
-            1 => Some(Phase::Waiting),
-            2 => Some(Phase::Telling),
-            3 => Some(Phase::Ending),
-            4 => Some(Phase::Over),
-            _ => None,
+            0 => Ok(Phase::New),
+            1 => Ok(Phase::Waiting),
+            2 => Ok(Phase::Telling),
+            3 => Ok(Phase::Ending),
+            4 => Ok(Phase::Over),
+            _ => Err(NoPhase(number)),
         }
     }
+}
 
-    pub fn number(self) -> u64 {
-        match self {
-            Phase::New => 0,
-            Phase::Waiting => 1,
-            Phase::Telling => 2,
-            Phase::Ending => 3,
-            Phase::Over => 4,
-        }
+impl From<Phase> for u64 {
+    fn from(phase: Phase) -> u64 {
+        phase as u64
     }
 }
 
@@ -57,6 +61,13 @@ impl Mirror {
         }
     }
 
+    // Some words one behind the other, from a place on.
+    pub fn lay(&mut self, at: usize, numbers: &[u64]) {
+        for (at, number) in (at..self.words.len()).zip(numbers) {
+            self.set(at, *number);
+        }
+    }
+
     // Whether the words in front can be the listener's own.
     fn holds(&self) -> bool {
         let len = self.get(LEN);
@@ -71,11 +82,10 @@ impl Mirror {
 
     // The phase, where the words in front can be the listener's own.
     pub fn standing(&self) -> Option<Phase> {
-        if self.holds() {
-            Phase::numbered(self.get(PHASE))
-        } else {
-            None
+        if !self.holds() {
+            return None;
         }
+        Phase::try_from(self.get(PHASE)).ok()
     }
 
     pub fn steps(&self) -> usize {
@@ -89,22 +99,12 @@ impl Mirror {
     // Whether a never of a step is of a kind.
     fn never_names(&self, step: usize, kind: u64) -> bool {
         let many = (self.get(step_at(step).saturating_add(NEVERS)) as usize).min(MOST_NEVERS);
-        for i in 0..many {
-            if self.get(never_at(step, i)) == kind {
-                return true;
-            }
-        }
-        false
+        (0..many).any(|never| self.get(never_at(step, never)) == kind)
     }
 
     // Whether a step or a never is of a kind.
     pub fn names(&self, kind: u64) -> bool {
-        for step in 0..self.steps() {
-            if self.kind_of(step) == kind || self.never_names(step, kind) {
-                return true;
-            }
-        }
-        false
+        (0..self.steps()).any(|step| self.kind_of(step) == kind || self.never_names(step, kind))
     }
 
     // Where the slot of a position begins.
@@ -115,30 +115,29 @@ impl Mirror {
 
     pub fn event(&self, position: u64) -> Event {
         let at = self.slot(position);
+        let [heard, time, kind, who, value] =
+            [0, 1, 2, 3, 4].map(|i: usize| self.get(at.saturating_add(i)));
         Event {
-            heard: self.get(at),
-            time: self.get(at.saturating_add(1)),
-            kind: self.get(at.saturating_add(2)),
-            who: self.get(at.saturating_add(3)),
-            value: self.get(at.saturating_add(4)),
+            heard,
+            time,
+            kind,
+            who,
+            value,
         }
     }
 
     pub fn set_event(&mut self, position: u64, e: Event) {
-        let at = self.slot(position);
-        for (i, number) in [e.heard, e.time, e.kind, e.who, e.value].iter().enumerate() {
-            self.set(at.saturating_add(i), *number);
-        }
+        self.lay(
+            self.slot(position),
+            &[e.heard, e.time, e.kind, e.who, e.value],
+        );
     }
 
     // The first position from one on whose event has a time that is not below a bound.
     pub fn run_below(&self, from: u64, bound: u64) -> u64 {
         let len = self.get(LEN);
-        for position in from..len {
-            if self.event(position).time >= bound {
-                return position;
-            }
-        }
-        len
+        (from..len)
+            .find(|position| self.event(*position).time >= bound)
+            .unwrap_or(len)
     }
 }

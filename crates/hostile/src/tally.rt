@@ -1,14 +1,16 @@
 // What was answered, counted.
 use crate::layout::MOST_STEPS;
-use crate::mirror::Phase;
-use listener::Told;
+use crate::mirror::{PHASES, Phase};
+use crate::trying::Answer;
+use listener::{Refusal, Told};
 use std::fmt;
+use trials::{Counts, add};
 
-#[derive(Drop)]
+#[derive(Default, Drop)]
 pub struct Tally {
     calls: u64,
     // Rows of one to six numbers.
-    rows: [u64; MOST_STEPS],
+    rows: Counts<MOST_STEPS>,
     waits: u64,
     late: u64,
     over: u64,
@@ -16,75 +18,41 @@ pub struct Tally {
     no_pattern: u64,
     out_of_turn: u64,
     no_room: u64,
-    // Calls to a listener that is new, waiting, telling, ending, over, and to a memory that isn't the listener's own.
-    phases: [u64; 6],
-}
-
-fn add(count: &mut u64) {
-    *count = count.saturating_add(1);
-}
-
-fn add_at(counts: &mut [u64], place: usize) {
-    if let Some(count) = counts.get_mut(place) {
-        add(count);
-    }
+    // Calls by the phase of the listener, and to a memory that isn't the listener's own.
+    phases: Counts<PHASES>,
+    foreign: u64,
 }
 
 impl Tally {
-    pub fn new() -> Tally {
-        Tally {
-            calls: 0,
-            rows: [0; MOST_STEPS],
-            waits: 0,
-            late: 0,
-            over: 0,
-            misfits: 0,
-            no_pattern: 0,
-            out_of_turn: 0,
-            no_room: 0,
-            phases: [0; 6],
-        }
-    }
-
     pub fn count_call(&mut self, standing: Option<Phase>) {
-        add(&mut self.calls);
-        let place = match standing {
-            Some(phase) => phase.number() as usize,
-            None => 5,
-        };
-        add_at(&mut self.phases, place);
-    }
-
-    pub fn count_answer(&mut self, told: Told) {
-        match told {
-            Told::Row(many) => add_at(&mut self.rows, (many as usize).saturating_sub(1)),
-            Told::Waits => add(&mut self.waits),
-            Told::Late => add(&mut self.late),
-            Told::Over => add(&mut self.over),
-            Told::No(0) => add(&mut self.misfits),
-            Told::No(1) => add(&mut self.no_pattern),
-            Told::No(8) => add(&mut self.no_room),
-            Told::No(_) => add(&mut self.out_of_turn),
+        add(&mut self.calls, 1);
+        match standing {
+            Some(phase) => self.phases.add(phase as usize, 1),
+            None => add(&mut self.foreign, 1),
         }
     }
-}
 
-fn write_all<W: fmt::Write>(f: &mut fmt::Formatter<W>, counts: &[u64]) -> fmt::Result {
-    for count in counts {
-        write!(f, " {count}")?;
+    pub fn count_answer(&mut self, told: Answer) {
+        match told {
+            Ok(Told::Row(many)) => self.rows.add((many as usize).saturating_sub(1), 1),
+            Ok(Told::Waits) => add(&mut self.waits, 1),
+            Ok(Told::Late) => add(&mut self.late, 1),
+            Ok(Told::Over) => add(&mut self.over, 1),
+            Err(Refusal::Misfit) => add(&mut self.misfits, 1),
+            Err(Refusal::NoPattern) => add(&mut self.no_pattern, 1),
+            Err(Refusal::OutOfTurn) => add(&mut self.out_of_turn, 1),
+            Err(Refusal::NoRoom) => add(&mut self.no_room, 1),
+        }
     }
-    Ok(())
 }
 
 impl fmt::Display for Tally {
     fn fmt<W: fmt::Write>(&self, f: &mut fmt::Formatter<W>) -> fmt::Result {
         write!(f, "{} calls: nothing wrong", self.calls)?;
-        write!(f, "\nrows of one to six numbers:")?;
-        write_all(f, &self.rows)?;
         write!(
             f,
-            "; waits {}, late {}, over {}",
-            self.waits, self.late, self.over
+            "\nrows of one to six numbers:{}; waits {}, late {}, over {}",
+            self.rows, self.waits, self.late, self.over
         )?;
         write!(
             f,
@@ -93,8 +61,8 @@ impl fmt::Display for Tally {
         )?;
         write!(
             f,
-            "\ncalls while new, waiting, telling, ending, over, and to no memory of its own:"
-        )?;
-        write_all(f, &self.phases)
+            "\ncalls while new, waiting, telling, ending, over, and to no memory of its own:{} {}",
+            self.phases, self.foreign
+        )
     }
 }
