@@ -80,9 +80,7 @@ impl Maker {
     // In turn, most often.
     fn kind(&mut self, standing: Option<Phase>) -> u64 {
         if self.random.percent(15) {
-            return self
-                .random
-                .one_of(&[0, 1, 2, 3, 4, 5, 1 << 32, u64::MAX]);
+            return self.random.one_of(&[0, 1, 2, 3, 4, 5, 1 << 32, u64::MAX]);
         }
         let call = match standing {
             Some(Phase::New) => Call::Pattern,
@@ -108,10 +106,7 @@ impl Maker {
     }
 
     fn pattern(&mut self) -> Result<Vec<u64>, AllocError> {
-        let steps = self
-            .random
-            .below(MOST_STEPS as u64)
-            .saturating_add(1);
+        let steps = self.random.below(MOST_STEPS as u64).saturating_add(1);
         let within = self.random.one_of(&[0, 3, 9, 9, SPANS - 1]);
         let late = self.random.one_of(&[0, 2, 5, 5, SPANS - 1]);
         let mut row = vec![in self.heap; within, late, steps]?;
@@ -146,9 +141,7 @@ impl Maker {
             self.random.below(SOME)
         };
         let heap = self.heap;
-        (0..many)
-            .map(|_| self.random.below(SMALL))
-            .collect(heap)
+        (0..many).map(|_| self.random.below(SMALL)).collect(heap)
     }
 
     fn row(&mut self, kind: u64, latest: u64) -> Result<Vec<u64>, AllocError> {

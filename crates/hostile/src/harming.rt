@@ -1,7 +1,7 @@
 // A listener's memory and its mirror, and how both are damaged.
 use crate::layout::{
-    COUNT, KNOWN, LATEST, LEN, NUMBERS, PHASE, PLACES, RING, ROOM, SLOT_LONG, SLOTS,
-    STALE, START, STEPS, UPTO, WITHIN,
+    COUNT, KNOWN, LATEST, LEN, NUMBERS, PHASE, PLACES, RING, ROOM, SLOT_LONG, SLOTS, STALE, START,
+    STEPS, UPTO, WITHIN,
 };
 use crate::mirror::{Mirror, Phase};
 use listener::MEMORY_LONG;

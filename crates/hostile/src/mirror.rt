@@ -115,8 +115,9 @@ impl Mirror {
 
     pub fn event(&self, position: u64) -> Event {
         let at = self.slot(position);
-        let [heard, time, kind, who, value] =
-            [0, 1, 2, 3, 4].map(|i: usize| self.get(at.saturating_add(i)));
+        let [heard, time, kind, who, value] = [0, 1, 2, 3, 4].map(|i: usize| self.get(
+            at.saturating_add(i),
+        ));
         Event {
             heard,
             time,

@@ -23,12 +23,7 @@ pub type Answer = Result<Told, Refusal>;
 const EVERY: u64 = 8;
 
 // A memory of another length, all zeros, stays as it was.
-fn tell_misfit(
-    heap: Global,
-    trial: &Trial,
-    long: usize,
-    out: &mut [u64],
-) -> Result<Answer, Stop> {
+fn tell_misfit(heap: Global, trial: &Trial, long: usize, out: &mut [u64]) -> Result<Answer, Stop> {
     let mut memory = vec![in heap; 0; long]?;
     let told = step(&mut memory, trial.kind, &trial.row, out);
     if memory.iter().any(|word| *word != 0) {
@@ -38,12 +33,7 @@ fn tell_misfit(
 }
 
 // What was told, where nothing is wrong.
-pub fn tried(
-    heap: Global,
-    pair: &mut Pair,
-    trial: &Trial,
-    number: u64,
-) -> Result<Answer, Stop> {
+pub fn tried(heap: Global, pair: &mut Pair, trial: &Trial, number: u64) -> Result<Answer, Stop> {
     let mut out = trial.out.clone()?;
     let told = match trial.memory {
         Memory::Own => step(&mut pair.memory, trial.kind, &trial.row, &mut out),
@@ -54,8 +44,7 @@ pub fn tried(
         Err(refusal) => Err(refusal),
     };
     let mut right = trial.out.clone()?;
-    pair.mirror
-        .judge(expected, told, &pair.memory, &mut right)?;
+    pair.mirror.judge(expected, told, &pair.memory, &mut right)?;
     if out != right {
         return Err(Stop::Wrong(Wrong::Out));
     }

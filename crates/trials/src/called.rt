@@ -3,8 +3,7 @@ ghost use Rattle.std.specs.Prelude.{◌^◌, ◌<◌};
 ghost use Rattle.std.specs.Option.{SomeIff};
 ghost use Rattle.std.specs.Str.Parse.{IsNumeral, digits_value, without_leading_plus};
 
-use std::env;
-use std::io;
+use std::{env, io};
 
 // The number that a word says in decimal.
 pub fn number(word: &str) -> Option<u64>
