@@ -1,9 +1,8 @@
 -- Where a time belongs in a rising row of times, and the smaller of two counts.
 -- Assumes nothing: these are definitions.
-use Rattle.std.specs.Prelude.{ℕ, ◌+◌, Bool, true, ◌&&◌, List, [], ◌∷◌, nat_le, nat_lt}
+use Rattle.std.specs.Prelude.{ℕ, ◌+◌, Bool, true, ◌&&◌, List, [], ◌∷◌, nat_le, nat_lt, Result, Ok, Err}
 use Rattle.timeline.specs.Lists.{pick}
-use Rattle.timeline.specs.declared.places.Reply.{Reply}
-use Rattle.timeline.specs.declared.places.Reply.TheVariants.{Place, Refused}
+use Rattle.timeline.specs.declared.places.NotRising.{NotRising}
 
 abbrev pub smaller : ℕ → ℕ → ℕ
 smaller a b = pick (nat_lt a b) a b
@@ -19,6 +18,10 @@ rising [] = true
 rising (x ∷ []) = true
 rising (x ∷ y ∷ xs) = nat_le x y && rising (y ∷ xs)
 
--- the place behind all times that are not above; refused with 1 if the row does not rise
-unfoldable pub place_of : ℕ → List ℕ → Reply
-place_of t xs = pick (rising xs) (Place (not_above t xs)) (Refused 1)
+-- a row that does not rise is refused with 1
+abbrev pub refusal_number : NotRising → ℕ
+refusal_number r = 1
+
+-- the place behind all times that are not above; refused if the row does not rise
+unfoldable pub place_of : ℕ → List ℕ → Result ℕ NotRising
+place_of t xs = pick (rising xs) (Ok (not_above t xs)) (Err (record {}))

@@ -30,7 +30,7 @@ impl Event {
     pub fn before(self, other: Event) -> bool
         ensures { result ≡ is_before self other }
     {
-        self.time < other.time || self.time == other.time && self.heard < other.heard
+        (self.time, self.heard) < (other.time, other.heard)
     }
 }
 

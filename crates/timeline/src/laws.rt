@@ -1,26 +1,18 @@
-// Laws of the ring: what each answers is of no account, what it ensures holds.
+// Laws of the ring: each does nothing, and what it ensures holds.
 ghost use Rattle.timeline.specs.Changes.{ChangesHold, PutsSort, PutsHeld, SlotsSayAll};
 
-pub fn changes_hold() -> u8
+pub fn changes_hold()
     ensures { ChangesHold }
-{
-    0
-}
+{}
 
-pub fn puts_sort() -> u8
+pub fn puts_sort()
     ensures { PutsSort }
-{
-    0
-}
+{}
 
-pub fn puts_held() -> u8
+pub fn puts_held()
     ensures { PutsHeld }
-{
-    0
-}
+{}
 
-pub fn slots_say_all() -> u8
+pub fn slots_say_all()
     ensures { SlotsSayAll }
-{
-    0
-}
+{}
