@@ -1,7 +1,11 @@
 -- Slots of a ring: one written is told from all others, and the slots of one turn say all that a ring holds.
-use Rattle.std.proofs.Common.{◌≡◌, ℕ, ◌+◌, ◌-◌, ◌*◌, ◌/◌, ◌%◌, ◌<◌, ◌≤◌, ◌≢◌, List, length, get_or, sym, ap, ◌∙◌, arith, rules}
-use Rattle.std.proofs.lemmas.List.{length-set, ext_get_or, places}
+use Rattle.std.proofs.Common.{◌≡◌, ℕ, zero, suc, ◌+◌, ◌-◌, ◌*◌, ◌/◌, ◌%◌, ◌<◌, ◌≤◌, ◌≢◌, ◌⊎◌, inl, inr, ⊎_elim, min, List, [], length, get_or, take, drop, replicate, sym, refl, ap, ◌∙◌, add-zero, arith, rules}
+use Rattle.std.proofs.lemmas.Bool.{cases_lt}
+use Rattle.std.proofs.lemmas.List.{length-set, length-replicate, get_or-replicate, ext_get_or, drop-drop, places}
+use Rattle.std.specs.Simd.{first_chunks}
+use borrow.Rule.Slice.PartMut.{put_mid}
 use Rattle.timeline.specs.declared.events.Event.{Event}
+use Rattle.timeline.specs.Order.{nothing}
 use Rattle.timeline.specs.Ring.{capacity, ring_long, event_at, with_event, slot}
 
 pub with_long : (ring : List ℕ) (n : ℕ) (e : Event) → length (with_event ring n e) ≡ length ring
@@ -18,6 +22,91 @@ slot_same ring s e h = event_same ring (s % capacity * 5) e (omega arith)
 
 pub slot_other : (ring : List ℕ) (s t : ℕ) (e : Event) → t % capacity ≢ s % capacity → slot (with_event ring (s % capacity * 5) e) t ≡ slot ring t
 slot_other ring s t e ne = event_other ring (s % capacity) (t % capacity) e ne
+
+-- five numbers that are the same are one event
+pub event_from : (a b : List ℕ) (p q : ℕ) → ((j : ℕ) → j < 5 → get_or a (p + j) 0 ≡ get_or b (q + j) 0) → event_at a p ≡ event_at b q
+event_from a b p q same =
+    let e0 : get_or a p 0 ≡ get_or b q 0 = ap (λ (t : ℕ). get_or a t 0) (sym (add-zero p)) ∙ same 0 (omega arith) ∙ ap (λ (t : ℕ). get_or b t 0) (add-zero q) in
+    let e1 : get_or a (p + 1) 0 ≡ get_or b (q + 1) 0 = same 1 (omega arith) in
+    let e2 : get_or a (p + 2) 0 ≡ get_or b (q + 2) 0 = same 2 (omega arith) in
+    let e3 : get_or a (p + 3) 0 ≡ get_or b (q + 3) 0 = same 3 (omega arith) in
+    let e4 : get_or a (p + 4) 0 ≡ get_or b (q + 4) 0 = same 4 (omega arith) in
+    rw (e0, e1, e2, e3, e4) refl
+
+-- numbers written over part of a ring leave each slot that has none of them
+module _ (ring xs : List ℕ) (a k : ℕ) (l : length xs ≡ k) (h : a + k ≤ length ring) where
+  below : (n : ℕ) → n < a → get_or (put_mid a k ring xs) n 0 ≡ get_or ring n 0
+  below n b = search (rules, places)
+
+  above : (n : ℕ) → a + k ≤ n → get_or (put_mid a k ring xs) n 0 ≡ get_or ring n 0
+  above n b = search (rules, places)
+
+  within : (n : ℕ) → a ≤ n → n < a + k → get_or (put_mid a k ring xs) n 0 ≡ get_or xs (n - a) 0
+  within n b e = search (rules, places)
+
+  pub slot_beside : (t : ℕ) → (t % capacity * 5 + 5 ≤ a) ⊎ (a + k ≤ t % capacity * 5) → slot (put_mid a k ring xs) t ≡ slot ring t
+  slot_beside t =
+      ⊎_elim
+      (λ (b : t % capacity * 5 + 5 ≤ a). event_from (put_mid a k ring xs) ring (t % capacity * 5) (t % capacity * 5) (λ j g. below (t % capacity * 5 + j) (omega arith)))
+      (λ (b : a + k ≤ t % capacity * 5). event_from (put_mid a k ring xs) ring (t % capacity * 5) (t % capacity * 5) (λ j g. above (t % capacity * 5 + j) (omega arith)))
+
+  -- and each slot that they are zeros of is none
+  pub slot_zero : xs ≡ replicate k 0 → (t : ℕ) → a ≤ t % capacity * 5 → t % capacity * 5 + 5 ≤ a + k → slot (put_mid a k ring xs) t ≡ nothing
+  slot_zero zeros t b e =
+      event_from (put_mid a k ring xs) [] (t % capacity * 5) 0
+      (λ j g.
+      let n : ℕ = t % capacity * 5 + j in
+      within n (omega arith) (omega arith) ∙ ap (λ (ns : List ℕ). get_or ns (n - a) 0) zeros ∙ get_or-replicate k (n - a) 0 0 (omega arith))
+
+  long_beside : length (put_mid a k ring xs) ≡ length ring
+  long_beside = search (rules, places)
+
+-- five numbers written over one slot leave every other
+pub slot_past : (ring xs : List ℕ) (p k t : ℕ) → length xs ≡ k → k ≡ 5 → p * 5 + 5 ≤ length ring → t % capacity ≢ p
+    → slot (put_mid (p * 5) k ring xs) t ≡ slot ring t
+slot_past ring xs p k t l five h ne =
+    slot_beside ring xs (p * 5) k l (omega arith) t (⊎_elim (λ (b : t % capacity < p). inl (omega arith)) (λ (b : p ≤ t % capacity). inr (omega arith)) (cases_lt (t % capacity) p))
+
+-- zeros written from a to b and from c to d, over the slots of a span
+module _ (ring front back : List ℕ) (s len a b c d : ℕ) (long : length ring ≡ ring_long) (hs : s < capacity) (hl : len ≤ capacity)
+    (ha : a ≡ s * 5) (hb : b ≡ min (s + len) capacity * 5) (hc : c ≡ 0) (hd : d ≡ (s + len - capacity) * 5)
+    (hf : front ≡ replicate (b - a) 0) (hk : back ≡ replicate (d - c) 0) where
+  lf : length front ≡ b - a
+  lf = ap length hf ∙ length-replicate (b - a) 0
+
+  lk : length back ≡ d - c
+  lk = ap length hk ∙ length-replicate (d - c) 0
+
+  long' : length (put_mid a (b - a) ring front) ≡ ring_long
+  long' = long_beside ring front a (b - a) lf (omega arith) ∙ long
+
+  pub cleared_zero : (k : ℕ) → k < len → slot (put_mid c (d - c) (put_mid a (b - a) ring front) back) (s + k) ≡ nothing
+  cleared_zero k h =
+      ⊎_elim
+      (λ (e : s + k < capacity).
+      slot_beside (put_mid a (b - a) ring front) back c (d - c) lk (omega (arith, long')) (s + k) (inr (omega arith))
+      ∙ slot_zero ring front a (b - a) lf (omega arith) hf (s + k) (omega arith) (omega arith))
+      (λ (e : capacity ≤ s + k). slot_zero (put_mid a (b - a) ring front) back c (d - c) lk (omega (arith, long')) hk (s + k) (omega arith) (omega arith))
+      (cases_lt (s + k) capacity)
+
+  pub cleared_other : (k : ℕ) → len ≤ k → k < capacity → slot (put_mid c (d - c) (put_mid a (b - a) ring front) back) (s + k) ≡ slot ring (s + k)
+  cleared_other k h g =
+      slot_beside (put_mid a (b - a) ring front) back c (d - c) lk (omega (arith, long')) (s + k) (inr (omega arith))
+      ∙ slot_beside ring front a (b - a) lf (omega arith) (s + k)
+      (⊎_elim (λ (e : s + k < capacity). inr (omega arith)) (λ (e : capacity ≤ s + k). inl (omega arith)) (cases_lt (s + k) capacity))
+
+-- a chunk of five numbers, as an event
+chunk_at : (k i : ℕ) (xs d : List ℕ) → i < k → get_or (first_chunks 5 k xs) i d ≡ take 5 (drop (i * 5) xs)
+chunk_at zero i xs d h = absurd (omega arith)
+chunk_at (suc k) zero xs d h = refl
+chunk_at (suc k) (suc i) xs d h =
+    let e : 5 + i * 5 ≡ suc i * 5 = omega arith in
+    chunk_at k i (drop 5 xs) d (omega arith) ∙ ap (take 5) (drop-drop (i * 5) 5 xs ∙ ap (λ (t : ℕ). drop t xs) e)
+
+pub chunk_event : (k i : ℕ) (xs d : List ℕ) → i < k → event_at (get_or (first_chunks 5 k xs) i d) 0 ≡ event_at xs (i * 5)
+chunk_event k i xs d h =
+    ap (λ (ns : List ℕ). event_at ns 0) (chunk_at k i xs d h)
+    ∙ event_from (take 5 (drop (i * 5) xs)) xs 0 (i * 5) (λ j g. search (rules, places))
 
 -- two slots of one turn are apart
 pub apart : (s i k : ℕ) → i < capacity → k < capacity → (k ≡ i → ⊥) → (s + k) % capacity ≢ (s + i) % capacity

@@ -13,5 +13,6 @@ mod tests;
 pub use events::{EVENT_NUMBERS, Event};
 pub use laws::{changes_hold, puts_held, puts_sort, slots_say_all};
 pub use places::{NotRising, place, smaller_of};
-pub use ring::{RING_LONG, at, forget, parts, put};
+pub use ring::{at, forget, parts, put};
+pub use slots::RING_LONG;
 pub use spans::{CAPACITY, Span};

@@ -1,42 +1,66 @@
-// One event in a slot of a ring, five numbers each.
-ghost use Rattle.std.specs.Prelude.{◌≡◌, ℕ, ◌+◌, ◌%◌, ◌<◌, ◌≤◌, length, ◌≢◌};
+// The slots of a span in a ring of lent memory, five numbers each.
+ghost use Rattle.std.specs.Prelude.{◌≡◌, ℕ, ◌+◌, ◌-◌, ◌*◌, ◌%◌, ◌<◌, ◌≤◌, min, length, ◌≢◌};
+ghost use Rattle.timeline.specs.Order.{nothing};
 ghost use Rattle.timeline.specs.Ring.{capacity, ring_long, slot};
 
 use crate::events::{EVENT_NUMBERS, Event};
-use crate::spans::CAPACITY;
+use crate::spans::{CAPACITY, Span};
+use std::ops::Range;
 
-// The slot that lies i behind another, counted round.
-pub fn slot_behind(start: usize, i: usize) -> usize
-    requires { (start < capacity) × (i ≤ capacity) }
-    ensures { result ≡ (start + i) % capacity }
-{
-    let n = start + i;
-    if n < CAPACITY { n } else { n - CAPACITY }
-}
+// How many numbers a ring takes.
+pub const RING_LONG: usize = CAPACITY * EVENT_NUMBERS;
 
-pub fn get(ring: &[u64], start: usize, i: usize) -> Event
-    requires { (start < capacity) × ((i < capacity) × (length ring.now ≡ ring_long)) }
-    ensures { result ≡ slot ring.now (start + i) }
-{
-    let n = slot_behind(start, i) * EVENT_NUMBERS;
-    Event {
-        heard: ring[n],
-        time: ring[n + 1],
-        kind: ring[n + 2],
-        who: ring[n + 3],
-        value: ring[n + 4],
+impl Span {
+    // The slot that lies i behind the first, counted round.
+    pub(crate) fn slot_behind(self, i: usize) -> usize
+        requires { i ≤ capacity }
+        ensures { result ≡ (self.start + i) % capacity }
+    {
+        let n = self.start + i;
+        if n < CAPACITY { n } else { n - CAPACITY }
     }
-}
 
-pub fn store(ring: &mut [u64], start: usize, i: usize, e: Event)
-    requires { (start < capacity) × ((i < capacity) × (length ring.old ≡ ring_long)) }
-    ensures here { slot ring.new (start + i) ≡ e }
-    ensures others { (k : ℕ) → k < capacity → (k ≢ i) → slot ring.new (start + k) ≡ slot ring.old (start + k) }
-{
-    let n = slot_behind(start, i) * EVENT_NUMBERS;
-    ring[n] = e.heard;
-    ring[n + 1] = e.time;
-    ring[n + 2] = e.kind;
-    ring[n + 3] = e.who;
-    ring[n + 4] = e.value;
+    // The numbers of all its slots: up to the end of the ring, and from its beginning on.
+    pub(crate) fn numbers(self) -> (Range<usize>, Range<usize>)
+        ensures front { (result.0.start ≡ self.start * 5) × (result.0.end ≡ min (self.start + self.len) capacity * 5) }
+        ensures back { (result.1.start ≡ 0) × (result.1.end ≡ (self.start + self.len - capacity) * 5) }
+    {
+        let end = self.start + self.len;
+        let turn = end.min(CAPACITY);
+        (
+            self.start * EVENT_NUMBERS..turn * EVENT_NUMBERS,
+            0..(end - turn) * EVENT_NUMBERS,
+        )
+    }
+
+    // The event i behind the first.
+    pub(crate) fn get(self, ring: &[u64; RING_LONG], i: usize) -> Event
+        requires { i < capacity }
+        ensures { result ≡ slot ring.now (self.start + i) }
+    {
+        let (slots, _) = ring.as_chunks::<EVENT_NUMBERS>();
+        Event::from(slots[self.slot_behind(i)])
+    }
+
+    // Writes an event into the slot that lies i behind the first.
+    pub(crate) fn store(self, ring: &mut [u64; RING_LONG], i: usize, e: Event)
+        requires { i < capacity }
+        ensures len { length ring.new ≡ ring_long }
+        ensures here { slot ring.new (self.start + i) ≡ e }
+        ensures others { (k : ℕ) → k < capacity → (k ≢ i) → slot ring.new (self.start + k) ≡ slot ring.old (self.start + k) }
+    {
+        let n = self.slot_behind(i) * EVENT_NUMBERS;
+        ring[n..n + EVENT_NUMBERS].copy_from_slice(&<[u64; EVENT_NUMBERS]>::from(e));
+    }
+
+    // Writes zeros into all its slots.
+    pub(crate) fn clear(self, ring: &mut [u64; RING_LONG])
+        ensures len { length ring.new ≡ ring_long }
+        ensures zeros { (k : ℕ) → k < self.len → slot ring.new (self.start + k) ≡ nothing }
+        ensures others { (k : ℕ) → self.len ≤ k → k < capacity → slot ring.new (self.start + k) ≡ slot ring.old (self.start + k) }
+    {
+        let (front, back) = self.numbers();
+        ring[front].fill(0);
+        ring[back].fill(0);
+    }
 }
