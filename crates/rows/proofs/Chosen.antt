@@ -1,6 +1,7 @@
 -- The positions chosen so far, as an array has them, and where a search can be.
-use Rattle.std.proofs.Common.{◌≡◌, ℕ, zero, suc, ◌+◌, ◌<◌, ◌≤◌, Bool, true, false, ◌&&◌, ltb, leb, ◌≢◌, List, [], ◌∷◌, ◌++◌, length, get_or, take, set, sym, refl, ap, ◌∙◌, ap₂, inl, inr, true≢false, append_assoc, eq-or-lt_of_le, arith, length-append, take-suc}
-use Rattle.std.proofs.lemmas.List.{get_or-set_other}
+use Rattle.std.proofs.Common.{◌≡◌, ℕ, zero, suc, ◌+◌, ◌<◌, ◌≤◌, Bool, true, false, ◌&&◌, ltb, leb, ◌≢◌, List, [], ◌∷◌, ◌++◌, length, get_or, take, drop, set, sym, refl, ap, ◌∙◌, ap₂, inl, inr, true≢false, append_assoc, eq-or-lt_of_le, arith, length-append, take-suc}
+use Rattle.std.specs.List.{list_all}
+use Rattle.std.proofs.lemmas.List.{drop_more, get_or-set_other}
 use Rattle.std.proofs.lemmas.Bool.{and_parts, cases_Bool, leb-true, ltb-true, le-leb, lt-ltb}
 use Rattle.timeline.specs.Lists.{every, run}
 use Rattle.rows.specs.Search.{chosen, forward}
@@ -70,6 +71,14 @@ run_every f (suc n) a h j k l = elim (eq-or-lt_of_le k) [ inl e ↦ (rw e at par
 
 pub every_not : (f : ℕ → Bool) (n a j : ℕ) → a ≤ j → j < a + n → f j ≡ false → every f (run a n) ≡ false
 every_not f n a j k l e = elim (cases_Bool (every f (run a n))) [ inl t ↦ absurd (true≢false (sym (run_every f n a t j k l) ∙ e)) | inr t ↦ t ]
+
+-- a test of so many of a list, said by their places
+pub every_taken : (test : ℕ → Bool) (xs : List ℕ) (n c : ℕ) → c + n ≤ length xs → list_all test (take n (drop c xs)) ≡ every (λ j. test (get_or xs j 0)) (run c n)
+unfolding every run
+every_taken test xs zero c l = refl
+every_taken test xs (suc n) c l =
+    let e : c + 1 ≡ suc c = omega arith in
+    rw (drop_more xs c 0 (omega arith), e) (ap (λ b. test (get_or xs c 0) && b) (every_taken test xs n (suc c) (omega arith)))
 
 -- what it says that a search can be at a cursor
 pub record Placed (n upto k : ℕ) (c : Cursor) : Type 0 where

@@ -1,36 +1,28 @@
--- Held events, read by their positions.
-use Rattle.std.proofs.Common.{◌≡◌, ℕ, zero, suc, ◌+◌, ◌-◌, ◌*◌, ◌/◌, ◌<◌, ◌≤◌, List, [], ◌∷◌, ◌++◌, length, sym, refl, ap, ◌∙◌, ap₂, arith, length-append}
+-- Events in two parts of numbers, read by their positions.
+use Rattle.std.proofs.Common.{◌≡◌, ℕ, zero, suc, ◌+◌, ◌-◌, ◌/◌, ◌<◌, ◌≤◌, List, [], ◌∷◌, ◌++◌, map, length, get_or, min, max, take, drop, sym, refl, ap, ◌∙◌, ap₂, get_or-take, get_or-drop, arith, length-append}
+use Rattle.std.specs.Simd.{first_chunks}
+use Rattle.std.proofs.lemmas.List.{length-map, length-take, length-drop}
 use Rattle.timeline.specs.declared.events.Event.{Event}
 use Rattle.timeline.specs.Order.{nth}
-use Rattle.timeline.specs.Ring.{event_at, decode}
-use Rattle.rows.specs.Held.{held, how_many}
+use Rattle.timeline.specs.Ring.{decode}
+use Rattle.rows.specs.Parts.{event_of}
 
-length_decode : (xs : List ℕ) → length (decode xs) ≡ length xs / 5
-length_decode [] = refl
-length_decode (h ∷ []) = refl
-length_decode (h ∷ t ∷ []) = refl
-length_decode (h ∷ t ∷ k ∷ []) = refl
-length_decode (h ∷ t ∷ k ∷ w ∷ []) = refl
-length_decode (h ∷ t ∷ k ∷ w ∷ v ∷ xs) = omega (arith, length_decode xs)
+-- five numbers at a time
+pub decode_is : (xs : List ℕ) → map event_of (first_chunks 5 (length xs / 5) xs) ≡ decode xs
+decode_is [] = refl
+decode_is (h ∷ []) = refl
+decode_is (h ∷ t ∷ []) = refl
+decode_is (h ∷ t ∷ k ∷ []) = refl
+decode_is (h ∷ t ∷ k ∷ w ∷ []) = refl
+decode_is (h ∷ t ∷ k ∷ w ∷ v ∷ xs) =
+    let e : length (h ∷ t ∷ k ∷ w ∷ v ∷ xs) / 5 ≡ suc (length xs / 5) = omega arith in
+    rw e (ap (λ es. event_of (h ∷ t ∷ k ∷ w ∷ v ∷ []) ∷ es) (decode_is xs))
 
-pub length_held : (front back : List ℕ) → how_many front back ≡ length (held front back)
-length_held front back = sym (length-append (decode front) (decode back) ∙ ap₂ (λ a b. a + b) (length_decode front) (length_decode back))
-
-nth_decode : (xs : List ℕ) (p : ℕ) → p < length xs / 5 → nth (decode xs) p ≡ event_at xs (p * 5)
+nth_map : (xs : List (List ℕ)) (p : ℕ) (d : List ℕ) → p < length xs → nth (map event_of xs) p ≡ event_of (get_or xs p d)
 unfolding nth
-nth_decode [] p l = absurd (omega arith)
-nth_decode (h ∷ []) p l = absurd (omega arith)
-nth_decode (h ∷ t ∷ []) p l = absurd (omega arith)
-nth_decode (h ∷ t ∷ k ∷ []) p l = absurd (omega arith)
-nth_decode (h ∷ t ∷ k ∷ w ∷ []) p l = absurd (omega arith)
-nth_decode (h ∷ t ∷ k ∷ w ∷ v ∷ xs) zero l = refl
-nth_decode (h ∷ t ∷ k ∷ w ∷ v ∷ xs) (suc p) l =
-    let e0 : suc p * 5 ≡ suc (suc (suc (suc (suc (p * 5))))) = omega arith in
-    let e1 : suc p * 5 + 1 ≡ suc (suc (suc (suc (suc (p * 5 + 1))))) = omega arith in
-    let e2 : suc p * 5 + 2 ≡ suc (suc (suc (suc (suc (p * 5 + 2))))) = omega arith in
-    let e3 : suc p * 5 + 3 ≡ suc (suc (suc (suc (suc (p * 5 + 3))))) = omega arith in
-    let e4 : suc p * 5 + 4 ≡ suc (suc (suc (suc (suc (p * 5 + 4))))) = omega arith in
-    nth_decode xs p (omega arith) ∙ rw (e1, e2, e3, e4, e0) refl
+nth_map [] p d l = absurd (omega arith)
+nth_map (x ∷ xs) zero d l = refl
+nth_map (x ∷ xs) (suc p) d l = nth_map xs p d (omega arith)
 
 nth_front : (es fs : List Event) (p : ℕ) → p < length es → nth (es ++ fs) p ≡ nth es p
 unfolding nth
@@ -44,10 +36,37 @@ nth_back [] fs p l = let e : p - 0 ≡ p = omega arith in rw e refl
 nth_back (e ∷ es) fs zero l = absurd (omega arith)
 nth_back (e ∷ es) fs (suc p) l = let q : suc p - suc (length es) ≡ p - length es = omega arith in nth_back es fs p (omega arith) ∙ ap (nth fs) (sym q)
 
-pub in_front : (front back : List ℕ) (p : ℕ) → p < length front / 5 → event_at front (p * 5) ≡ nth (held front back) p
-in_front front back p l = sym (nth_front (decode front) (decode back) p (omega (arith, length_decode front)) ∙ nth_decode front p l)
+pub length_parts : (front back : List (List ℕ)) → length (map event_of front ++ map event_of back) ≡ length front + length back
+length_parts front back = length-append (map event_of front) (map event_of back) ∙ ap₂ (λ a b. a + b) (length-map front event_of) (length-map back event_of)
 
-pub in_back : (front back : List ℕ) (p : ℕ) → length front / 5 ≤ p → p < how_many front back → event_at back ((p - length front / 5) * 5) ≡ nth (held front back) p
-in_back front back p l k =
-    sym (nth_back (decode front) (decode back) p (omega (arith, length_decode front)) ∙ ap (λ n. nth (decode back) (p - n)) (length_decode front)
-    ∙ nth_decode back (p - length front / 5) (omega arith))
+module _ (front back : List (List ℕ)) (p : ℕ) (d : List ℕ) where
+  pub in_front : p < length front → event_of (get_or front p d) ≡ nth (map event_of front ++ map event_of back) p
+  in_front l = sym (nth_front (map event_of front) (map event_of back) p (omega (arith, length-map front event_of)) ∙ nth_map front p d l)
+
+  pub in_back : length front ≤ p → p < length front + length back → event_of (get_or back (p - length front) d) ≡ nth (map event_of front ++ map event_of back) p
+  in_back l k =
+      sym (nth_back (map event_of front) (map event_of back) p (omega (arith, length-map front event_of)) ∙ ap (λ n. nth (map event_of back) (p - n)) (length-map front event_of)
+      ∙ nth_map back (p - length front) d (omega arith))
+
+-- from one position on and before an end, in each part
+module _ (front back : List (List ℕ)) (from end a b i : ℕ) where
+  pub part_front : a ≡ min from (length front) → b ≡ min end (length front) → i < length (take (b - a) (drop a front))
+      → event_of (get_or (take (b - a) (drop a front)) i []) ≡ nth (map event_of front ++ map event_of back) (from + i)
+  part_front e f l =
+      let k : i < b - a = omega (arith, length-take (b - a) (drop a front)) in
+      let q : a ≡ from = omega arith in
+      ap event_of (get_or-take (b - a) (drop a front) i [] k ∙ get_or-drop a front i [])
+      ∙ in_front front back (a + i) [] (omega arith)
+      ∙ ap (λ n. nth (map event_of front ++ map event_of back) (n + i)) q
+
+  pub part_back : (m : ℕ) → m ≡ min end (length front) - min from (length front) → a ≡ max from (length front) → b ≡ max end (length front) → from ≤ end → end ≤ length front + length back
+      → i < length (take (b - length front - (a - length front)) (drop (a - length front) back))
+      → event_of (get_or (take (b - length front - (a - length front)) (drop (a - length front) back)) i []) ≡ nth (map event_of front ++ map event_of back) (from + m + i)
+  part_back m g e f order inside l =
+      let n = length front in
+      let k : i < b - n - (a - n) = omega (arith, length-take (b - n - (a - n)) (drop (a - n) back)) in
+      let q : a - n + i ≡ a + i - n = omega arith in
+      let p : a + i ≡ from + m + i = omega arith in
+      ap event_of (get_or-take (b - n - (a - n)) (drop (a - n) back) i [] k ∙ get_or-drop (a - n) back i [] ∙ ap (λ j. get_or back j []) q)
+      ∙ in_back front back (a + i) [] (omega arith) (omega arith)
+      ∙ ap (nth (map event_of front ++ map event_of back)) p

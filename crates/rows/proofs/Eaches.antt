@@ -5,7 +5,7 @@ use Rattle.std.proofs.lemmas.List.{length-map, map-append, get_or-map, take-map,
 use Rattle.timeline.specs.Lists.{each}
 use Rattle.timeline.proofs.Each.{each_append}
 
-each_is : {A B : Type 0} (f : A → B) (xs : List A) → each f xs ≡ map f xs
+pub each_is : {A B : Type 0} (f : A → B) (xs : List A) → each f xs ≡ map f xs
 unfolding each
 each_is f [] = refl
 each_is {B = B} f (x ∷ xs) = ap {B = List B} (λ ys. f x ∷ ys) (each_is f xs)

@@ -6,22 +6,18 @@ use Rattle.timeline.specs.Order.{nothing, nth}
 use Rattle.patterns.specs.Patterns.{Pattern}
 use Rattle.patterns.specs.Kept.{kept_count, kept_pattern}
 use Rattle.patterns.proofs.Steps.{steps_long}
-use Rattle.rows.specs.Held.{held, how_many, Along, six_of}
+use Rattle.rows.specs.Held.{Along, six_of}
 use Rattle.rows.specs.Search.{chosen}
 use Rattle.rows.specs.Finding.{row_ok, row_hi, to_come, behind, found_first, placed, next_found}
 use Rattle.rows.specs.declared.search.Cursor.{Cursor}
 use Rattle.rows.specs.declared.search.Found.{Found}
-use Rattle.rows.proofs.Decoded.{length_held}
 use Rattle.rows.proofs.Chosen.{Placed, placed_parts}
 use Rattle.rows.proofs.LevelOk.{hi_deep, hi_small}
 use Rattle.rows.proofs.Pruning.{Starts}
 use Rattle.rows.proofs.Searching.{Going, going, moves_left, begins, moves_back, moves_over, moves_far, under_end, looks, moves_on, moves_down, moves_found}
 
-module _ (front back words : List ℕ) (upto : ℕ) (cur : Cursor)
-    (can : placed (length (held front back)) upto (length (kept_pattern words).steps) cur ≡ true) (steps : ℕ) (many : steps ≡ kept_count words) where
-  abbrev h : List Event
-  h = held front back
-
+module _ (h : List Event) (words : List ℕ) (upto : ℕ) (cur : Cursor)
+    (can : placed (length h) upto (length (kept_pattern words).steps) cur ≡ true) (steps : ℕ) (many : steps ≡ kept_count words) where
   abbrev p : Pattern
   p = kept_pattern words
 
@@ -31,8 +27,8 @@ module _ (front back words : List ℕ) (upto : ℕ) (cur : Cursor)
   n : steps ≡ length p.steps
   n = many ∙ sym (steps_long words)
 
-  pub events_ready : (cur.depth ≤ 6) × ((j : ℕ) → j < cur.depth → get_or cur.at j 0 < how_many front back)
-  events_ready = (omega (arith, w.deep, w.few), λ j l. omega (arith, w.before j l, w.short, length_held front back))
+  pub events_ready : (cur.depth ≤ 6) × ((j : ℕ) → j < cur.depth → get_or cur.at j 0 < length h)
+  events_ready = (omega (arith, w.deep, w.few), λ j l. omega (arith, w.before j l, w.short))
 
   pub start : (row : List Event) → length cur.at ≡ 6 → length row ≡ 6 → ((j : ℕ) → j < cur.depth → get_or row j nothing ≡ nth h (get_or cur.at j 0))
       → Going steps h p upto cur cur.at row cur.depth
@@ -55,9 +51,9 @@ module _ (front back words : List ℕ) (upto : ℕ) (cur : Cursor)
     top : end ≤ upto
     top = omega (arith, hi_small upto at d (omega (arith, g.0, g.1, g.2)) g.4.came.before)
 
-    pub candidate_ready : get_or at d 0 < end → ((d < kept_count words) × ((get_or at d 0 ≤ end) × (end ≤ how_many front back))) × Along h at row d
+    pub candidate_ready : get_or at d 0 < end → ((d < kept_count words) × ((get_or at d 0 ≤ end) × (end ≤ length h))) × Along h at row d
     candidate_ready l = (
-      (omega (arith, g.0), (omega arith, omega (arith, top, w.short, length_held front back))),
+      (omega (arith, g.0), (omega arith, omega (arith, top, w.short))),
       record { inside = λ j k. omega (arith, g.4.came.before j k, w.short); are = g.4.are },
     )
 
@@ -71,8 +67,8 @@ module _ (front back words : List ℕ) (upto : ℕ) (cur : Cursor)
           let s = moves_far h p upto cur w.few w.short at row d g.4 v bounds.0 in_level passed (omega arith) in
           (going steps h p upto cur (set at d v) row d n w.few s.0, s.1)
 
-      pub get_ready : v < end → v < how_many front back
-      get_ready l = omega (arith, top, w.short, length_held front back)
+      pub get_ready : v < end → v < length h
+      get_ready l = omega (arith, top, w.short)
 
       -- its event is e
       module _ (l : v < end) (e : Event) (is : e ≡ nth h v) where
@@ -98,12 +94,12 @@ module _ (front back words : List ℕ) (upto : ℕ) (cur : Cursor)
 
           pub start_ready : (d + 1 ≡ steps → ⊥)
               → ((1 ≤ d + 1) × ((d + 1 < kept_count words) × (get_or (set row d e) 0 nothing ≡ nth h (get_or (set at d v) 0 0))))
-              × ((get_or (set at d v) 0 0 ≤ how_many front back) × (1 < d + 1 → get_or (set at d v) (d + 1 - 1) 0 < get_or (set at d v) 0 0))
+              × ((get_or (set at d v) 0 0 ≤ length h) × (1 < d + 1 → get_or (set at d v) (d + 1 - 1) 0 < get_or (set at d v) 0 0))
           start_ready q =
               let i = under_end h p upto cur w.few w.short at row d g.4 v bounds.0 in_level passed under e is in (
                 (omega arith, (omega (arith, g.0), along.are 0 (omega arith))),
                 (
-                  omega (arith, along.inside 0 (omega arith), length_held front back),
+                  omega (arith, along.inside 0 (omega arith)),
                   λ o.
                       let z : d + 1 - 1 ≡ d = omega arith in
                       let last = hi_deep upto (set at d v) d (λ x. omega arith) (omega (arith, length-set at d v, g.0, g.1, g.2)) in
@@ -117,9 +113,9 @@ module _ (front back words : List ℕ) (upto : ℕ) (cur : Cursor)
               (going steps h p upto cur (set (set at d v) (d + 1) u) (set row d e) (d + 1) n w.few t.0, t.1)
 
 -- WHERE A SEARCH CAN BE, as the code tests it
-pub placed_is : (front back words : List ℕ) (upto : ℕ) (cur : Cursor) (count steps : ℕ) → count ≡ how_many front back → steps ≡ kept_count words
-    → placed count upto steps cur ≡ placed (length (held front back)) upto (length (kept_pattern words).steps) cur
-placed_is front back words upto cur count steps a b = ap₂ (λ n k. placed n upto k cur) (a ∙ length_held front back) (b ∙ sym (steps_long words))
+pub placed_is : (h : List Event) (words : List ℕ) (upto : ℕ) (cur : Cursor) (count steps : ℕ) → count ≡ length h → steps ≡ kept_count words
+    → placed count upto steps cur ≡ placed (length h) upto (length (kept_pattern words).steps) cur
+placed_is h words upto cur count steps a b = ap₂ (λ n k. placed n upto k cur) a (b ∙ sym (steps_long words))
 
 pub next_none : (h : List Event) (p : Pattern) (upto : ℕ) (cur : Cursor) → placed (length h) upto (length p.steps) cur ≡ false → None ≡ next_found h p upto cur
 unfolding next_found

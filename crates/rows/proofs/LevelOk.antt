@@ -6,11 +6,10 @@ use Rattle.timeline.specs.Lists.{pick, each}
 use Rattle.timeline.specs.Order.{nothing, nth}
 use Rattle.patterns.specs.Kept.{kept_step, kept_count, kept_pattern}
 use Rattle.patterns.proofs.Steps.{steps_long}
-use Rattle.rows.specs.Held.{held, how_many, Standing, Along}
+use Rattle.rows.specs.Held.{Standing, Along}
 use Rattle.rows.specs.Search.{chosen, forward}
 use Rattle.rows.specs.Finding.{fits, row_ok, row_lo, row_hi}
 use Rattle.rows.proofs.Picks.{and_false}
-use Rattle.rows.proofs.Decoded.{length_held}
 use Rattle.rows.proofs.Chosen.{chosen_forward, length_chosen}
 use Rattle.rows.proofs.Steps.{kept_at}
 
@@ -69,12 +68,12 @@ along_stands h at row d m la lr a l k =
     }
 
 -- what a step's try asks for, of the position at i
-pub along_ready : (front back at : List ℕ) (row : List Event) (d i m : ℕ) → length at ≡ 6 → length row ≡ 6 → Along (held front back) at row d → i < d → m + 1 ≤ d → d ≤ 6
-    → ((get_or at i 0 < how_many front back) × (get_or row i nothing ≡ nth (held front back) (get_or at i 0)))
-    × (Standing (held front back) (take m (drop 1 at)) (take m (drop 1 row)) × (length (take m (drop 1 row)) ≡ length (take m (drop 1 at))))
-along_ready front back at row d i m la lr a q l k = (
-  (omega (arith, a.inside i q, length_held front back), a.are i q),
-  (along_stands (held front back) at row d m la lr a l k, omega (arith, length-take m (drop 1 at), length-take m (drop 1 row), length-drop 1 at, length-drop 1 row)),
+pub along_ready : (h : List Event) (at : List ℕ) (row : List Event) (d i m : ℕ) → length at ≡ 6 → length row ≡ 6 → Along h at row d → i < d → m + 1 ≤ d → d ≤ 6
+    → ((get_or at i 0 < length h) × (get_or row i nothing ≡ nth h (get_or at i 0)))
+    × (Standing h (take m (drop 1 at)) (take m (drop 1 row)) × (length (take m (drop 1 row)) ≡ length (take m (drop 1 at))))
+along_ready h at row d i m la lr a q l k = (
+  (omega (arith, a.inside i q), a.are i q),
+  (along_stands h at row d m la lr a l k, omega (arith, length-take m (drop 1 at), length-take m (drop 1 row), length-drop 1 at, length-drop 1 row)),
 )
 
 -- WHICH POSITIONS: by the depth, for a kept pattern

@@ -8,7 +8,7 @@ use Rattle.timeline.specs.Order.{nothing, nth}
 use Rattle.patterns.specs.Patterns.{Step, fits_step}
 use Rattle.patterns.specs.Kept.{kept_step, kept_count, kept_pattern}
 use Rattle.patterns.proofs.Steps.{steps_six}
-use Rattle.rows.specs.Held.{held, Along}
+use Rattle.rows.specs.Held.{Along}
 use Rattle.rows.specs.Search.{chosen}
 use Rattle.rows.specs.Finding.{fits, row_ok}
 use Rattle.rows.proofs.Positions.{nth_each}
@@ -31,11 +31,8 @@ fits_no : (h : List Event) (w : ℕ) (s : Step) (ps : List ℕ) (p : ℕ) → fi
 unfolding fits
 fits_no h w s ps p t = rw t refl
 
-module _ (front back c at : List ℕ) (row : List Event) (d : ℕ) (la : length at ≡ 6) (lr : length row ≡ 6) (few : d < kept_count c) (z : d ≡ 0 → ⊥)
-    (al : Along (held front back) at row d) (i : ℕ) where
-  abbrev h : List Event
-  h = held front back
-
+module _ (h : List Event) (c at : List ℕ) (row : List Event) (d : ℕ) (la : length at ≡ 6) (lr : length row ≡ 6) (few : d < kept_count c) (z : d ≡ 0 → ⊥)
+    (al : Along h at row d) (i : ℕ) where
   abbrev at₁ : List ℕ
   at₁ = set at d i
 
@@ -66,7 +63,7 @@ module _ (front back c at : List ℕ) (row : List Event) (d : ℕ) (la : length 
   -- its own step asks for another
   pub own_not : fits_step (take (d - 1) (drop 1 row)) (nth h i) (kept_step c (d - 1)).kind (kept_step c (d - 1)).tests ≡ false → unchosen
   own_not t =
-      let st = (along_ready front back at₁ row d 0 (d - 1) (length-set at d i ∙ la) lr along₁ (omega arith) (omega arith) (omega (arith, steps_six c))).1.0 in
+      let st = (along_ready h at₁ row d 0 (d - 1) (length-set at d i ∙ la) lr along₁ (omega arith) (omega arith) (omega (arith, steps_six c))).1.0 in
       let f = fits_not h (kept_pattern c).within (kept_step c (d - 1)) (take (d - 1) (drop 1 at₁)) (take (d - 1) (drop 1 row)) i (nth h i) st refl t in
       back_to (ok_not h c at₁ d z few long (rw here f))
 

@@ -1,5 +1,5 @@
 -- Runs of positions, what is gathered over them, and lists by what stands at their positions.
-use Rattle.std.proofs.Common.{◌≡◌, ℕ, zero, suc, ◌+◌, ◌-◌, ◌<◌, ◌≤◌, Bool, true, false, List, [], ◌∷◌, ◌++◌, length, get_or, sym, refl, ap, ◌∙◌, ap₂, append_assoc, append-nil, arith}
+use Rattle.std.proofs.Common.{◌≡◌, ℕ, zero, suc, ◌+◌, ◌-◌, ◌<◌, ◌≤◌, Bool, true, false, List, [], ◌∷◌, ◌++◌, length, get_or, sym, refl, ap, ◌∙◌, ap₂, append_assoc, append-nil, inl, inr, eq-or-lt_of_le, arith}
 use Rattle.timeline.specs.declared.events.Event.{Event}
 use Rattle.timeline.specs.Lists.{pick, or, any, those, flat, each, run}
 use Rattle.timeline.specs.Order.{nth}
@@ -80,6 +80,20 @@ pub any_none : (f : ℕ → Bool) (a n : ℕ) → Within (λ i. f i ≡ false) a
 unfolding any run
 any_none f a zero h = refl
 any_none f a (suc n) h = rw (h a (omega arith) (omega arith)) (any_none f (suc a) n (λ i k l. h i (omega arith) (omega arith)))
+
+-- one that passes is enough
+pub any_at : (f : ℕ → Bool) (a n j : ℕ) → a ≤ j → j < a + n → f j ≡ true → any f (run a n) ≡ true
+unfolding any run
+any_at f a zero j k l e = absurd (omega arith)
+any_at f a (suc n) j k l e =
+    elim (eq-or-lt_of_le k) [
+      | inl q ↦ let t : f a ≡ true = ap f q ∙ e in rw t refl
+      | inr m ↦ ap (or (f a)) (any_at f (suc a) n j m (omega arith) e) ∙ or_true (f a)
+    ]
+  where
+    or_true : (b : Bool) → or b true ≡ true
+    or_true true = refl
+    or_true false = refl
 
 any_same : (f g : ℕ → Bool) (a n : ℕ) → Within (λ i. f i ≡ g i) a (a + n) → any f (run a n) ≡ any g (run a n)
 unfolding any run

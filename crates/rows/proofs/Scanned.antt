@@ -1,38 +1,32 @@
--- What is known of each event of a part of a ring, known of the held events by their positions.
-use Rattle.std.proofs.Common.{◌≡◌, ℕ, ◌+◌, ◌-◌, ◌*◌, ◌/◌, ◌<◌, ◌≤◌, Bool, true, false, ltb, List, length, sym, refl, subst, arith}
+-- What is known of each event of two parts, known of the held events by their positions.
+use Rattle.std.proofs.Common.{◌≡◌, ℕ, ◌+◌, ◌-◌, ◌<◌, ◌≤◌, Bool, true, false, ltb, List, [], length, get_or, refl, subst, arith}
 use Rattle.std.proofs.lemmas.Bool.{ltb-true, ltb-false}
 use Rattle.timeline.specs.declared.events.Event.{Event}
 use Rattle.timeline.specs.Order.{nth}
-use Rattle.timeline.specs.Ring.{event_at}
-use Rattle.rows.specs.Held.{held, how_many}
-use Rattle.rows.proofs.Decoded.{in_front, in_back}
+use Rattle.rows.specs.Parts.{event_of}
 
-module _ (front back : List ℕ) (P : Event → Type 0) where
-  abbrev n : ℕ
-  n = length front / 5
+module _ (P : Event → Type 0) (held : List Event) (front back : List (List ℕ)) (from : ℕ) where
+  -- of so many in front
+  pub scanned_front : ((i : ℕ) → i < length front → event_of (get_or front i []) ≡ nth held (from + i))
+      → (r : ℕ) → r ≤ length front → ((i : ℕ) → i < r → P (event_of (get_or front i []))) → (j : ℕ) → j < from + r → from ≤ j → P (nth held j)
+  scanned_front reads r l f j a b =
+      let e : from + (j - from) ≡ j = omega arith in
+      subst (λ (k : ℕ). P (nth held k)) e (subst P (reads (j - from) (omega arith)) (f (j - from) (omega arith)))
 
-  -- of those in front
-  pub scanned_front : (from r : ℕ) → ((i : ℕ) → i < r → from ≤ i → P (event_at front (i * 5))) → r ≤ n → (i : ℕ) → i < r → from ≤ i → P (nth (held front back) i)
-  scanned_front from r f l i a b = subst P (in_front front back i (omega arith)) (f i a b)
+  -- of so many behind
+  scanned_back : ((i : ℕ) → i < length back → event_of (get_or back i []) ≡ nth held (from + length front + i))
+      → (r : ℕ) → r ≤ length back → ((i : ℕ) → i < r → P (event_of (get_or back i []))) → (j : ℕ) → j < from + length front + r → from + length front ≤ j → P (nth held j)
+  scanned_back reads r l f j a b =
+      let e : from + length front + (j - (from + length front)) ≡ j = omega arith in
+      subst (λ (k : ℕ). P (nth held k)) e (subst P (reads (j - (from + length front)) (omega arith)) (f (j - (from + length front)) (omega arith)))
 
-  -- of those behind
-  pub scanned_back : (from r : ℕ) → ((i : ℕ) → i < r → from ≤ i → P (event_at back (i * 5))) → n + r ≤ how_many front back → (i : ℕ) → i < n + r → n ≤ i → n + from ≤ i → P (nth (held front back) i)
-  scanned_back from r f l i a c b = subst P (in_back front back i c (omega arith)) (f (i - n) (omega arith) (omega arith))
-
-  -- of both, where all in front were passed
-  pub scanned_both : (from p r : ℕ) → ((i : ℕ) → i < p → from ≤ i → P (event_at front (i * 5))) → n ≤ p → ((i : ℕ) → i < r → 0 ≤ i → P (event_at back (i * 5))) → n + r ≤ how_many front back
-      → (i : ℕ) → i < n + r → from ≤ i → P (nth (held front back) i)
-  scanned_both from p r f l g m i a b = go (ltb i n) refl
+  -- of all in front, and of so many behind
+  pub scanned_both : ((i : ℕ) → i < length front → event_of (get_or front i []) ≡ nth held (from + i))
+      → ((i : ℕ) → i < length back → event_of (get_or back i []) ≡ nth held (from + length front + i))
+      → ((i : ℕ) → i < length front → P (event_of (get_or front i [])))
+      → (r : ℕ) → r ≤ length back → ((i : ℕ) → i < r → P (event_of (get_or back i []))) → (j : ℕ) → j < from + length front + r → from ≤ j → P (nth held j)
+  scanned_both x y f r l g j a b = go (ltb j (from + length front)) refl
     where
-      go : (t : Bool) → ltb i n ≡ t → P (nth (held front back) i)
-      go true q = let k = ltb-true i n q in scanned_front from n (λ j x y. f j (omega arith) y) (omega arith) i k b
-      go false q = let k = ltb-false i n q in scanned_back 0 r g m i a k (omega arith)
-
-  -- of the one where a look at a part stops
-  pub stops_front : (r : ℕ) → r < n → (P (event_at front (r * 5)) → ⊥) → P (nth (held front back) r) → ⊥
-  stops_front r l f p = f (subst P (sym (in_front front back r l)) p)
-
-  pub stops_back : (r : ℕ) → n + r < how_many front back → (P (event_at back (r * 5)) → ⊥) → P (nth (held front back) (n + r)) → ⊥
-  stops_back r l f p =
-      let e : n + r - n ≡ r = omega arith in
-      f (subst (λ (i : ℕ). P (event_at back (i * 5))) e (subst P (sym (in_back front back (n + r) (omega arith) l)) p))
+      go : (t : Bool) → ltb j (from + length front) ≡ t → P (nth held j)
+      go true q = let k = ltb-true j (from + length front) q in scanned_front x (length front) (omega arith) f j k b
+      go false q = let k = ltb-false j (from + length front) q in scanned_back y r l g j a k

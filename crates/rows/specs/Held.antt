@@ -1,22 +1,10 @@
--- Events held in two rows of numbers, five numbers an event, and what the search's code keeps of those that it has chosen.
+-- What the search's code asks of held events, and what it keeps of those that it has chosen.
 -- Assumes nothing: these are definitions.
 use Rattle.std.specs.Prelude.{◌≡◌, ℕ, ◌+◌, ◌-◌, ◌/◌, ◌<◌, true, false, List, [], ◌∷◌, ◌++◌, length, get_or, ◌==◌, nat_lt, slice_index, slice_index_or}
 use Rattle.timeline.specs.declared.events.Event.{Event}
 use Rattle.timeline.specs.Lists.{pick, each}
 use Rattle.timeline.specs.Order.{nothing, nth}
 use Rattle.timeline.specs.Ring.{decode}
-
--- the events of both, one after the other; fewer than five numbers at the end of one are left out
-abbrev pub held : List ℕ → List ℕ → List Event
-held front back = decode front ++ decode back
-
--- how many these are
-abbrev pub how_many : List ℕ → List ℕ → ℕ
-how_many front back = length front / 5 + length back / 5
-
--- an event of neither of two kinds
-abbrev pub OfNeither : ℕ → ℕ → Event → Type 0
-OfNeither a b e = ((e.kind == a) ≡ false) × ((e.kind == b) ≡ false)
 
 -- an event of another who, or of another kind
 abbrev pub OfAnother : ℕ → ℕ → Event → Type 0

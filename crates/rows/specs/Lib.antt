@@ -2,6 +2,7 @@ pub mod Rows
 pub mod Known
 pub mod Laws
 pub mod Held
+pub mod Parts
 pub mod Newly
 pub mod Search
 pub mod Finding

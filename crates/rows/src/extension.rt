@@ -31,15 +31,10 @@ fn is_disturbed_by(pattern: Kept<'_>, step: usize, row: &[Event], next: Event, f
 fn is_clear(pattern: Kept<'_>, step: usize, all: &[Event], row: &[Event], next: Event) -> bool
     ensures { result ≡ clear all.now row.now next (kept_step pattern.entry.words.now step) }
 {
-    if row.is_empty() {
-        return true;
-    }
-    for f in all {
-        if is_disturbed_by(pattern, step, row, next, *f) {
-            return false;
-        }
-    }
-    true
+    row.is_empty()
+        || !all
+            .iter()
+            .any(|f| is_disturbed_by(pattern, step, row, next, *f))
 }
 
 // Whether an event may come next in a row.

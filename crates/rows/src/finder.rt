@@ -7,17 +7,17 @@ ghost use Rattle.rows.specs.Rows.{rows as rows_of, all_rows};
 ghost use Rattle.rows.specs.Known.{numbers as numbers_of, counted as counted_of};
 ghost use Rattle.patterns.specs.Numbers.{pattern_in};
 ghost use Rattle.rows.specs.Finder.{lists, Finds};
-ghost use Rattle.rows.specs.declared.finder.FindError.TheVariants.{Memory};
+ghost use Rattle.rows.specs.declared.finder.FindError.TheVariants.{NoPattern, Memory};
 
 use crate::extension::all_go_on;
 use crate::insertion::{rows_in_order, sorted};
 use crate::lateness::counted;
-use patterns::{Kept, PATTERN_WORDS, keep};
+use patterns::{Kept, PATTERN_WORDS, Refusal, keep};
 use std::alloc::{AllocError, Global};
 use timeline::Event;
 
 // Why nothing is found.
-#[derive(Clone, Copy)]
+#[derive(Clone, Copy, PartialEq, Eq, Debug)]
 pub enum FindError {
     // The row of numbers says no pattern that may be.
     NoPattern,
@@ -28,8 +28,16 @@ pub enum FindError {
 impl From<AllocError> for FindError {
     ghost from_gives = { λ _ r. r ≡ Memory };
 
-    fn from(_e: AllocError) -> FindError {
+    fn from(_error: AllocError) -> FindError {
         FindError::Memory
+    }
+}
+
+impl From<Refusal> for FindError {
+    ghost from_gives = { λ _ r. r ≡ NoPattern };
+
+    fn from(_refusal: Refusal) -> FindError {
+        FindError::NoPattern
     }
 }
 
@@ -49,11 +57,7 @@ fn rows_among(heap: Global, pattern: Kept<'_>, all: &[Event]) -> Result<Vec<Vec<
 fn numbers(heap: Global, row: &[Event]) -> Result<Vec<u64>, AllocError>
     ensures { IfOk result (λ v. v.items ≡ numbers_of row.now) }
 {
-    let mut heard = Vec::new(heap);
-    for e in row {
-        heard.push(e.heard)?;
-    }
-    Ok(heard)
+    row.iter().map(|e| e.heard).collect(heap)
 }
 
 // Rows by their events' numbers.
@@ -81,9 +85,7 @@ pub fn find_all(heap: Global, row: &[u64], events: &[Event]) -> Result<Vec<Vec<u
     ensures { Finds row.now events.now result }
 {
     let mut words = [0; PATTERN_WORDS];
-    let Ok(()) = keep(row, &mut words) else {
-        return Err(FindError::NoPattern);
-    };
+    keep(row, &mut words)?;
     let rows = find_kept(heap, Kept { words: &words }, events)?;
     Ok(rows)
 }
@@ -93,9 +95,7 @@ pub fn find_counted(heap: Global, row: &[u64], events: &[Event]) -> Result<Vec<V
     ensures { Finds row.now (counted_of (pattern_in row.now) events.now) result }
 {
     let mut words = [0; PATTERN_WORDS];
-    let Ok(()) = keep(row, &mut words) else {
-        return Err(FindError::NoPattern);
-    };
+    keep(row, &mut words)?;
     let pattern = Kept { words: &words };
     let counted = counted(heap, pattern.late(), events)?;
     let rows = find_kept(heap, pattern, &counted)?;

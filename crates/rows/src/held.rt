@@ -1,24 +1,28 @@
-// Held events by their positions: the two parts of a ring, five numbers an event; fewer than five at the end of a part are left out.
-ghost use Rattle.std.specs.Prelude.{◌≡◌, ℕ, ◌+◌, ◌*◌, ◌/◌, ◌<◌, ◌≤◌, true, false, length, ◌==◌, nat_le};
+// Held events by their positions: the two parts of a ring, one after the other.
+ghost use Rattle.std.specs.Prelude.{◌≡◌, ℕ, ◌+◌, ◌-◌, ◌<◌, ◌≤◌, true, false, [], length, ◌==◌, nat_le, slice_index_or, ◌++◌};
 ghost use Rattle.timeline.specs.Order.{nth};
-ghost use Rattle.timeline.specs.Ring.{event_at};
-ghost use Rattle.rows.specs.Held.{held, how_many, OfNeither, OfAnother};
+ghost use Rattle.timeline.specs.Ring.{decode};
+ghost use Rattle.rows.specs.Parts.{event_of};
+ghost use Rattle.rows.specs.Held.{OfAnother};
 
-use timeline::Event;
+use std::marker::Model;
+use timeline::{EVENT_NUMBERS, Event};
 
-// How many numbers an event takes, and which of them are its time, its kind and who.
-const WIDTH: usize = 5;
-
-const TIME: usize = 1;
-
-const KIND: usize = 2;
-
-const WHO: usize = 3;
-
-#[derive(Clone, Copy)]
+#[derive(Drop)]
 pub struct Held<'a> {
-    pub front: &'a [u64],
-    pub back: &'a [u64],
+    front: &'a [[u64; EVENT_NUMBERS]],
+    back: &'a [[u64; EVENT_NUMBERS]],
+}
+
+impl<'a> Model for Held<'a> {
+    ghost use Rattle.std.specs.Prelude.{List};
+    ghost use Rattle.timeline.specs.declared.events.Event.{Event};
+
+    ghost Value = { List Event };
+
+    ghost use Rattle.rows.specs.Parts.{in_parts};
+
+    ghost view = { in_parts };
 }
 
 // Whether a time is no later than another and the window.
@@ -28,165 +32,127 @@ pub fn is_within(time: u64, first: u64, within: u64) -> bool
     time <= first || time - first <= within
 }
 
-// The event whose numbers begin at a place.
-fn event_at(part: &[u64], at: usize) -> Event
-    requires { at + 5 ≤ length part.now }
-    ensures { result ≡ event_at part.now at }
+// The first place of a part whose event passes a test; the part's length where there is none.
+fn first_in<F: Fn(Event) -> bool>(part: &[[u64; EVENT_NUMBERS]], test: &F) -> usize
+    requires { F.IsAlwaysCallable test.now }
+    ensures bound { result ≤ length part.now }
+    ensures passed { (i : ℕ) → i < result → F.post test.now (event_of (slice_index_or part.now i [])) false }
+    ensures stops { result < length part.now → F.post test.now (event_of (slice_index_or part.now result [])) true }
 {
-    Event {
-        heard: part[at],
-        time: part[at + 1],
-        kind: part[at + 2],
-        who: part[at + 3],
-        value: part[at + 4],
+    match part.iter().position(|numbers| test(Event::from(*numbers))) {
+        Some(i) => i,
+        None => part.len(),
     }
 }
 
-// The first place of a part, from one on and before the end, where an event of one of two kinds stands; the end where there is none.
-fn kinds_in(part: &[u64], one: u64, other: u64, from: usize, end: usize) -> usize
-    requires { (from ≤ end) × (end ≤ length part.now / 5) }
-    ensures bounds { (from ≤ result) × (result ≤ end) }
-    ensures passed { (i : ℕ) → i < result → from ≤ i → OfNeither one other (event_at part.now (i * 5)) }
-    ensures stops { result < end → OfNeither one other (event_at part.now (result * 5)) → ⊥ }
-{
-    for p in from..end {
-        let kind = part[p * WIDTH + KIND];
-        if kind == one {
-            return p;
-        }
-        if kind == other {
-            return p;
-        }
-    }
-    end
-}
-
-// The first place of a part, from one on and before the end, where an event of a who and a kind stands; the end where there is none.
-fn who_in(part: &[u64], who: u64, kind: u64, from: usize, end: usize) -> usize
-    requires { (from ≤ end) × (end ≤ length part.now / 5) }
-    ensures bounds { (from ≤ result) × (result ≤ end) }
-    ensures passed { (i : ℕ) → i < result → from ≤ i → OfAnother who kind (event_at part.now (i * 5)) }
-    ensures stops { result < end → OfAnother who kind (event_at part.now (result * 5)) → ⊥ }
-{
-    for p in from..end {
-        if part[p * WIDTH + WHO] != who {
-            continue;
-        }
-        if part[p * WIDTH + KIND] == kind {
-            return p;
-        }
-    }
-    end
-}
-
-impl Held<'_> {
-    // How many events.
-    pub fn count(self) -> usize
-        ensures { result ≡ how_many self.entry.front.now self.entry.back.now }
+impl<'a> Held<'a> {
+    // The events of two parts, five numbers an event; fewer than five at the end of a part are left out.
+    pub fn over(front: &'a [u64], back: &'a [u64]) -> Held<'a>
+        ensures { result ≡ decode front.now ++ decode back.now }
     {
-        self.front.len() / WIDTH + self.back.len() / WIDTH
+        Held {
+            front: front.as_chunks().0,
+            back: back.as_chunks().0,
+        }
+    }
+
+    // How many events.
+    pub fn count(&self) -> usize
+        ensures { result ≡ length self.now }
+    {
+        self.front.len() + self.back.len()
     }
 
     // The event at a position.
-    pub fn get(self, p: usize) -> Event
-        requires { p < how_many self.front.now self.back.now }
-        ensures { result ≡ nth (held self.entry.front.now self.entry.back.now) p }
+    pub fn get(&self, p: usize) -> Event
+        requires { p < length self.now }
+        ensures { result ≡ nth self.now p }
     {
-        let n = self.front.len() / WIDTH;
+        let n = self.front.len();
         if p < n {
-            event_at(self.front, p * WIDTH)
+            Event::from(self.front[p])
         } else {
-            event_at(self.back, (p - n) * WIDTH)
+            Event::from(self.back[p - n])
         }
     }
 
-    // The kind of the event at a position.
-    pub fn kind_at(self, p: usize) -> u64
-        requires { p < how_many self.front.now self.back.now }
-        ensures { result ≡ (nth (held self.entry.front.now self.entry.back.now) p).kind }
+    // The events from one position on and before an end, in the two parts.
+    fn between(
+        &self,
+        from: usize,
+        end: usize,
+    ) -> (&'a [[u64; EVENT_NUMBERS]], &'a [[u64; EVENT_NUMBERS]])
+        requires order { from ≤ end }
+        requires inside { end ≤ length self.now }
+        ensures front { (i : ℕ) → i < length result.0.now → event_of (slice_index_or result.0.now i []) ≡ nth self.now (from + i) }
+        ensures back { (i : ℕ) → i < length result.1.now → event_of (slice_index_or result.1.now i []) ≡ nth self.now (from + length result.0.now + i) }
+        ensures many { length result.0.now + length result.1.now ≡ end - from }
     {
-        let n = self.front.len() / WIDTH;
-        if p < n {
-            self.front[p * WIDTH + KIND]
-        } else {
-            self.back[(p - n) * WIDTH + KIND]
-        }
+        let n = self.front.len();
+        let front = &self.front[from.min(n)..end.min(n)];
+        let back = &self.back[from.max(n) - n..end.max(n) - n];
+        (front, back)
     }
 
-    // The time of the event at a position.
-    fn time_at(self, p: usize) -> u64
-        requires { p < how_many self.front.now self.back.now }
-        ensures { result ≡ (nth (held self.entry.front.now self.entry.back.now) p).time }
-    {
-        let n = self.front.len() / WIDTH;
-        if p < n {
-            self.front[p * WIDTH + TIME]
-        } else {
-            self.back[(p - n) * WIDTH + TIME]
-        }
-    }
-
-    // The first position from one on and before the end whose event is of one of two kinds; the end where there is none.
-    pub fn next_of_kinds(self, one: u64, other: u64, from: usize, end: usize) -> usize
-        requires { (from ≤ end) × (end ≤ how_many self.front.now self.back.now) }
+    // The first position from one on and before an end whose event passes a test; the end where there is none.
+    fn first<F: Fn(Event) -> bool>(&self, from: usize, end: usize, test: F) -> usize
+        requires order { from ≤ end }
+        requires inside { end ≤ length self.now }
+        requires callable { F.IsAlwaysCallable test }
         ensures bounds { (from ≤ result) × (result ≤ end) }
-        ensures passed { (i : ℕ) → i < result → from ≤ i → OfNeither one other (nth (held self.entry.front.now self.entry.back.now) i) }
-        ensures stops { result < end → OfNeither one other (nth (held self.entry.front.now self.entry.back.now) result) → ⊥ }
+        ensures passed { (i : ℕ) → i < result → from ≤ i → F.post test (nth self.now i) false }
+        ensures stops { result < end → F.post test (nth self.now result) true }
     {
-        let n = self.front.len() / WIDTH;
-        if end <= n {
-            return kinds_in(self.front, one, other, from, end);
+        let (front, back) = self.between(from, end);
+        let i = first_in(front, &test);
+        if i < front.len() {
+            return from + i;
         }
-        if from >= n {
-            return n + kinds_in(self.back, one, other, from - n, end - n);
-        }
-        let p = kinds_in(self.front, one, other, from, n);
-        if p < n {
-            return p;
-        }
-        n + kinds_in(self.back, one, other, 0, end - n)
+        from + i + first_in(back, &test)
+    }
+
+    // Whether an event between two positions passes a test.
+    pub fn has_between<F: Fn(Event) -> bool>(&self, a: usize, b: usize, test: F) -> bool
+        requires inside { b ≤ length self.now }
+        requires callable { F.IsAlwaysCallable test }
+        ensures yes { result ≡ true → (i : ℕ) × (a < i) × (i < b) × F.post test (nth self.now i) true }
+        ensures no { result ≡ false → (i : ℕ) → a < i → i < b → F.post test (nth self.now i) false }
+    {
+        a < b && self.first(a + 1, b, test) < b
     }
 
     // The first position from one on and before the end whose event is of a kind; the end where there is none.
-    pub fn next_of_kind(self, kind: u64, from: usize, end: usize) -> usize
-        requires { (from ≤ end) × (end ≤ how_many self.front.now self.back.now) }
+    pub fn next_of_kind(&self, kind: u64, from: usize, end: usize) -> usize
+        requires order { from ≤ end }
+        requires inside { end ≤ length self.now }
         ensures bounds { (from ≤ result) × (result ≤ end) }
-        ensures passed { (i : ℕ) → i < result → from ≤ i → ((nth (held self.entry.front.now self.entry.back.now) i).kind == kind) ≡ false }
-        ensures stops { result < end → OfNeither kind kind (nth (held self.entry.front.now self.entry.back.now) result) → ⊥ }
+        ensures passed { (i : ℕ) → i < result → from ≤ i → ((nth self.now i).kind == kind) ≡ false }
+        ensures stops { result < end → ((nth self.now result).kind == kind) ≡ true }
     {
-        self.next_of_kinds(kind, kind, from, end)
+        self.first(from, end, |e| e.kind == kind)
     }
 
     // The first position from one on and before the end whose event is of a who and a kind; the end where there is none.
-    pub fn next_of_who(self, who: u64, kind: u64, from: usize, end: usize) -> usize
-        requires { (from ≤ end) × (end ≤ how_many self.front.now self.back.now) }
+    pub fn next_of_who(&self, who: u64, kind: u64, from: usize, end: usize) -> usize
+        requires order { from ≤ end }
+        requires inside { end ≤ length self.now }
         ensures bounds { (from ≤ result) × (result ≤ end) }
-        ensures passed { (i : ℕ) → i < result → from ≤ i → OfAnother who kind (nth (held self.entry.front.now self.entry.back.now) i) }
-        ensures stops { result < end → OfAnother who kind (nth (held self.entry.front.now self.entry.back.now) result) → ⊥ }
+        ensures passed { (i : ℕ) → i < result → from ≤ i → OfAnother who kind (nth self.now i) }
+        ensures stops { result < end → OfAnother who kind (nth self.now result) → ⊥ }
     {
-        let n = self.front.len() / WIDTH;
-        if end <= n {
-            return who_in(self.front, who, kind, from, end);
-        }
-        if from >= n {
-            return n + who_in(self.back, who, kind, from - n, end - n);
-        }
-        let p = who_in(self.front, who, kind, from, n);
-        if p < n {
-            return p;
-        }
-        n + who_in(self.back, who, kind, 0, end - n)
+        self.first(from, end, |e| e.who == who && e.kind == kind)
     }
 
     // The last position from one on and before the end whose event is of a kind; the first of them where there is none.
-    pub fn last_of_kind(self, kind: u64, from: usize, end: usize) -> usize
-        requires { (from ≤ end) × (end ≤ how_many self.front.now self.back.now) }
+    pub fn last_of_kind(&self, kind: u64, from: usize, end: usize) -> usize
+        requires order { from ≤ end }
+        requires inside { end ≤ length self.now }
         ensures bounds { (from ≤ result) × (result ≤ end) }
-        ensures found { from < result → (result < end) × (((nth (held self.entry.front.now self.entry.back.now) result).kind == kind) ≡ true) }
-        ensures last { (i : ℕ) → result < i → i < end → ((nth (held self.entry.front.now self.entry.back.now) i).kind == kind) ≡ false }
+        ensures found { from < result → (result < end) × (((nth self.now result).kind == kind) ≡ true) }
+        ensures last { (i : ℕ) → result < i → i < end → ((nth self.now i).kind == kind) ≡ false }
     {
         for p in (from..end).rev() {
-            if self.kind_at(p) == kind {
+            if self.get(p).kind == kind {
                 return p;
             }
         }
@@ -194,17 +160,12 @@ impl Held<'_> {
     }
 
     // The first position before the end from which a time is within the window; the end where there is none.
-    pub fn first_in_reach(self, time: u64, within: u64, end: usize) -> usize
-        requires { end ≤ how_many self.front.now self.back.now }
+    pub fn first_in_reach(&self, time: u64, within: u64, end: usize) -> usize
+        requires { end ≤ length self.now }
         ensures bounds { result ≤ end }
-        ensures passed { (i : ℕ) → i < result → nat_le time ((nth (held self.entry.front.now self.entry.back.now) i).time + within) ≡ false }
-        ensures stops { result < end → nat_le time ((nth (held self.entry.front.now self.entry.back.now) result).time + within) ≡ true }
+        ensures passed { (i : ℕ) → i < result → nat_le time ((nth self.now i).time + within) ≡ false }
+        ensures stops { result < end → nat_le time ((nth self.now result).time + within) ≡ true }
     {
-        for p in 0..end {
-            if is_within(time, self.time_at(p), within) {
-                return p;
-            }
-        }
-        end
+        self.first(0, end, |e| is_within(time, e.time, within))
     }
 }

@@ -5,113 +5,81 @@ ghost use Rattle.rows.specs.Fitting.{AllThatFit, NoRowTwice};
 ghost use Rattle.rows.specs.Sorted.{SortedRises, SortedKeeps, SortedAnyWay, Renumbered, Neighbours};
 
 // What is known stays known, and comes first.
-pub fn known_stays() -> u8
+pub fn known_stays()
     ensures { KnownStays }
-{
-    0
-}
+{}
 
 // Which of two events is put in order first doesn't matter.
-pub fn sorted_right() -> u8
+pub fn sorted_right()
     ensures { SortedRight }
-{
-    0
-}
+{}
 
 // Rows are told in order, each once.
-pub fn told_once() -> u8
+pub fn told_once()
     ensures { ToldOnce }
-{
-    0
-}
+{}
 
 // What needn't be held doesn't matter.
-pub fn held_enough() -> u8
+pub fn held_enough()
     ensures { HeldEnough }
-{
-    0
-}
+{}
 
 // What is heard to never falls.
-pub fn grows() -> u8
+pub fn grows()
     ensures { Grows }
-{
-    0
-}
+{}
 
 // What becomes known is found among what is held.
-pub fn newly_held() -> u8
+pub fn newly_held()
     ensures { NewlyHeld }
-{
-    0
-}
+{}
 
 // What is left at the end is found among what is held.
-pub fn ends_held() -> u8
+pub fn ends_held()
     ensures { EndsHeld }
-{
-    0
-}
+{}
 
 // What was let go is not wanted again.
-pub fn held_later() -> u8
+pub fn held_later()
     ensures { HeldLater }
-{
-    0
-}
+{}
 
 // An event that isn't too late is not let go as it comes.
-pub fn never_stale() -> u8
+pub fn never_stale()
     ensures { NeverStale }
-{
-    0
-}
+{}
 
 // All rows of a pattern are all that fit, and no others.
-pub fn all_that_fit() -> u8
+pub fn all_that_fit()
     ensures { AllThatFit }
-{
-    0
-}
+{}
 
 // No row stands twice among them.
-pub fn no_row_twice() -> u8
+pub fn no_row_twice()
     ensures { NoRowTwice }
-{
-    0
-}
+{}
 
 // Events are put in the order of time.
-pub fn sorted_rises() -> u8
+pub fn sorted_rises()
     ensures { SortedRises }
-{
-    0
-}
+{}
 
 // They are the same ones, each as often.
-pub fn sorted_keeps() -> u8
+pub fn sorted_keeps()
     ensures { SortedKeeps }
-{
-    0
-}
+{}
 
 // Whichever way they were given, they are put in one order.
-pub fn sorted_any_way() -> u8
+pub fn sorted_any_way()
     ensures { SortedAnyWay }
-{
-    0
-}
+{}
 
 // Numbers matter only among events of the same time.
-pub fn renumbered_rows() -> u8
+pub fn renumbered_rows()
     ensures { Renumbered }
-{
-    0
-}
+{}
 
 // Two neighbours of different times may be heard of the other way round.
-pub fn neighbours() -> u8
+pub fn neighbours()
     ensures { Neighbours }
-{
-    0
-}
+{}

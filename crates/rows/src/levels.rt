@@ -3,7 +3,7 @@ ghost use Rattle.std.specs.Prelude.{◌≡◌, ℕ, ◌+◌, ◌-◌, ◌<◌, �
 ghost use Rattle.timeline.specs.Lists.{any, run};
 ghost use Rattle.timeline.specs.Order.{nothing, nth};
 ghost use Rattle.patterns.specs.Kept.{kept_step, kept_count, kept_pattern};
-ghost use Rattle.rows.specs.Held.{held, how_many, Standing, Along, level_step};
+ghost use Rattle.rows.specs.Held.{Standing, Along, level_step};
 ghost use Rattle.rows.specs.Search.{Barren, chosen};
 ghost use Rattle.rows.specs.Finding.{forbidden, fits, row_ok, row_lo, row_hi, space};
 
@@ -14,16 +14,8 @@ use timeline::Event;
 // How many levels there can be: as many as a pattern has steps.
 pub const LEVELS: usize = 6;
 
-const NOTHING: Event = Event {
-    heard: 0,
-    time: 0,
-    kind: 0,
-    who: 0,
-    value: 0,
-};
-
 // Held events, and the pattern whose rows are looked for.
-#[derive(Clone, Copy)]
+#[derive(Drop)]
 pub struct Search<'a> {
     pub held: Held<'a>,
     pub kept: Kept<'a>,
@@ -47,34 +39,26 @@ fn level_step(steps: usize, depth: usize) -> usize
 
 impl Search<'_> {
     // Whether an event behind position a and before b is one that a never of the step forbids.
-    fn is_broken(self, step: usize, earlier: &[Event], a: usize, b: usize) -> bool
-        requires { (a < how_many self.held.front.now self.held.back.now) × (b ≤ how_many self.held.front.now self.held.back.now) }
-        ensures { result ≡ any (λ i. forbidden earlier.now (kept_step self.entry.kept.words.now step) (nth (held self.entry.held.front.now self.entry.held.back.now) i)) (run (a + 1) (b - (a + 1))) }
+    fn is_broken(&self, step: usize, earlier: &[Event], a: usize, b: usize) -> bool
+        requires { b ≤ length self.now.held }
+        ensures { result ≡ any (λ i. forbidden earlier.now (kept_step self.now.kept.words.now step) (nth self.now.held i)) (run (a + 1) (b - (a + 1))) }
     {
         if !self.kept.has_nevers(step) {
             return false;
         }
         let (one, other) = self.kept.never_kinds(step);
-        let mut i = a + 1;
-        while i < b {
-            i = self.held.next_of_kinds(one, other, i, b);
-            if i >= b {
-                return false;
-            }
-            if self.kept.hit(step, earlier, self.held.get(i)) {
-                return true;
-            }
-            i += 1;
-        }
-        false
+        let kept = self.kept;
+        self.held.has_between(a, b, |e| {
+            (e.kind == one || e.kind == other) && kept.hit(step, earlier, e)
+        })
     }
 
     // Whether the event at a position fits a step behind the events at the places before: by itself, within the window, and with nothing
     // forbidden between.
-    fn fits_at(self, step: usize, places: &[usize], earlier: &[Event], p: usize, e: Event) -> bool
-        requires p_bound { (p < how_many self.held.front.now self.held.back.now) × (e ≡ nth (held self.held.front.now self.held.back.now) p) }
-        requires standing { (Standing (held self.held.front.now self.held.back.now) places.now earlier.now) × (length earlier.now ≡ length places.now) }
-        ensures { result ≡ fits (held self.entry.held.front.now self.entry.held.back.now) (kept_pattern self.entry.kept.words.now).within (kept_step self.entry.kept.words.now step) places.now p }
+    fn fits_at(&self, step: usize, places: &[usize], earlier: &[Event], p: usize, e: Event) -> bool
+        requires p_bound { (p < length self.now.held) × (e ≡ nth self.now.held p) }
+        requires standing { (Standing self.now.held places.now earlier.now) × (length earlier.now ≡ length places.now) }
+        ensures { result ≡ fits self.now.held (kept_pattern self.now.kept.words.now).within (kept_step self.now.kept.words.now step) places.now p }
     {
         if !self.kept.fits(step, earlier, e) {
             return false;
@@ -90,9 +74,9 @@ impl Search<'_> {
 
     // Whether the position at a depth may stand there, given those before it; their events stand in the row. With the last but one event the
     // last can be tried whole.
-    pub fn may_stand(self, at: &[usize; LEVELS], row: &[Event; LEVELS], depth: usize) -> bool
-        requires { (depth < kept_count self.kept.words.now) × (Along (held self.held.front.now self.held.back.now) at.now row.now (depth + 1)) }
-        ensures { result ≡ row_ok (held self.entry.held.front.now self.entry.held.back.now) (kept_pattern self.entry.kept.words.now).within (kept_pattern self.entry.kept.words.now).steps (chosen at.now depth) (slice_index at.now depth) }
+    pub fn may_stand(&self, at: &[usize; LEVELS], row: &[Event; LEVELS], depth: usize) -> bool
+        requires { (depth < kept_count self.now.kept.words.now) × (Along self.now.held at.now row.now (depth + 1)) }
+        ensures { result ≡ row_ok self.now.held (kept_pattern self.now.kept.words.now).within (kept_pattern self.now.kept.words.now).steps (chosen at.now depth) (slice_index at.now depth) }
     {
         let steps = self.kept.steps();
         if depth == 0 {
@@ -118,9 +102,9 @@ impl Search<'_> {
 
     // The who that the event of a depth has to have, where a test says which: one of its own step, or with the last but one event one of the
     // last step.
-    fn who_asked(self, at: &[usize; LEVELS], row: &[Event; LEVELS], depth: usize) -> Option<u64>
-        requires { (depth < kept_count self.kept.words.now) × (Along (held self.held.front.now self.held.back.now) at.now row.now depth) }
-        ensures { IfSome result (λ w. (i : ℕ) → ((nth (held self.entry.held.front.now self.entry.held.back.now) i).who == w) ≡ false → i < how_many self.entry.held.front.now self.entry.held.back.now → row_ok (held self.entry.held.front.now self.entry.held.back.now) (kept_pattern self.entry.kept.words.now).within (kept_pattern self.entry.kept.words.now).steps (chosen at.now depth) i ≡ false) }
+    fn who_asked(&self, at: &[usize; LEVELS], row: &[Event; LEVELS], depth: usize) -> Option<u64>
+        requires { (depth < kept_count self.now.kept.words.now) × (Along self.now.held at.now row.now depth) }
+        ensures { IfSome result (λ w. (i : ℕ) → ((nth self.now.held i).who == w) ≡ false → i < length self.now.held → row_ok self.now.held (kept_pattern self.now.kept.words.now).within (kept_pattern self.now.kept.words.now).steps (chosen at.now depth) i ≡ false) }
     {
         if depth == 0 {
             return None;
@@ -138,10 +122,10 @@ impl Search<'_> {
     }
 
     // The first position of a depth, from where it stands on and before its end, whose event is of the step's kind.
-    pub fn next_candidate(self, at: &[usize; LEVELS], depth: usize, end: usize) -> usize
-        requires { (depth < kept_count self.kept.words.now) × ((slice_index at.now depth ≤ end) × (end ≤ how_many self.held.front.now self.held.back.now)) }
+    pub fn next_candidate(&self, at: &[usize; LEVELS], depth: usize, end: usize) -> usize
+        requires { (depth < kept_count self.now.kept.words.now) × ((slice_index at.now depth ≤ end) × (end ≤ length self.now.held)) }
         ensures bounds { (slice_index at.now depth ≤ result) × (result ≤ end) }
-        ensures passed { (i : ℕ) → i < result → slice_index at.now depth ≤ i → row_ok (held self.entry.held.front.now self.entry.held.back.now) (kept_pattern self.entry.kept.words.now).within (kept_pattern self.entry.kept.words.now).steps (chosen at.now depth) i ≡ false }
+        ensures passed { (i : ℕ) → i < result → slice_index at.now depth ≤ i → row_ok self.now.held (kept_pattern self.now.kept.words.now).within (kept_pattern self.now.kept.words.now).steps (chosen at.now depth) i ≡ false }
     {
         let kind = self.kept.kind_of(level_step(self.kept.steps(), depth));
         self.held.next_of_kind(kind, at[depth], end)
@@ -150,16 +134,16 @@ impl Search<'_> {
     // The first position of a depth, from where it stands on and before its end, whose event is of the step's kind and of the who that is
     // asked for.
     pub fn next_asked(
-        self,
+        &self,
         at: &[usize; LEVELS],
         row: &[Event; LEVELS],
         depth: usize,
         end: usize,
     ) -> usize
-        requires depth_bound { (depth < kept_count self.kept.words.now) × ((slice_index at.now depth ≤ end) × (end ≤ how_many self.held.front.now self.held.back.now)) }
-        requires along { Along (held self.held.front.now self.held.back.now) at.now row.now depth }
+        requires depth_bound { (depth < kept_count self.now.kept.words.now) × ((slice_index at.now depth ≤ end) × (end ≤ length self.now.held)) }
+        requires along { Along self.now.held at.now row.now depth }
         ensures bounds { (slice_index at.now depth ≤ result) × (result ≤ end) }
-        ensures passed { (i : ℕ) → i < result → slice_index at.now depth ≤ i → row_ok (held self.entry.held.front.now self.entry.held.back.now) (kept_pattern self.entry.kept.words.now).within (kept_pattern self.entry.kept.words.now).steps (chosen at.now depth) i ≡ false }
+        ensures passed { (i : ℕ) → i < result → slice_index at.now depth ≤ i → row_ok self.now.held (kept_pattern self.now.kept.words.now).within (kept_pattern self.now.kept.words.now).steps (chosen at.now depth) i ≡ false }
     {
         let Some(who) = self.who_asked(at, row, depth) else {
             return self.next_candidate(at, depth, end);
@@ -169,12 +153,12 @@ impl Search<'_> {
     }
 
     // The first position of a depth below the last event's: behind the one before; the first event's where the last is within the window.
-    fn first_place(self, at: &[usize; LEVELS], last: Event, depth: usize) -> usize
-        requires le_depth { (1 ≤ depth) × ((depth < kept_count self.kept.words.now) × (last ≡ nth (held self.held.front.now self.held.back.now) (slice_index at.now 0))) }
-        requires at_bound { (slice_index at.now 0 ≤ how_many self.held.front.now self.held.back.now) × ((1 < depth → slice_index at.now (depth - 1) < slice_index at.now 0)) }
+    fn first_place(&self, at: &[usize; LEVELS], last: Event, depth: usize) -> usize
+        requires le_depth { (1 ≤ depth) × ((depth < kept_count self.now.kept.words.now) × (last ≡ nth self.now.held (slice_index at.now 0))) }
+        requires at_bound { (slice_index at.now 0 ≤ length self.now.held) × ((1 < depth → slice_index at.now (depth - 1) < slice_index at.now 0)) }
         ensures bounds { (row_lo (chosen at.now depth) ≤ result) × (result ≤ slice_index at.now 0) }
-        ensures passed { (upto i : ℕ) → row_lo (chosen at.now depth) ≤ i → i < result → Barren (space (held self.entry.held.front.now self.entry.held.back.now) (kept_pattern self.entry.kept.words.now) upto) (length (kept_pattern self.entry.kept.words.now).steps - 1 - depth) (chosen at.now depth) i }
-        ensures reach { depth ≡ 1 → result < slice_index at.now 0 → nat_le last.time ((nth (held self.entry.held.front.now self.entry.held.back.now) result).time + (kept_pattern self.entry.kept.words.now).within) ≡ true }
+        ensures passed { (upto i : ℕ) → row_lo (chosen at.now depth) ≤ i → i < result → Barren (space self.now.held (kept_pattern self.now.kept.words.now) upto) (length (kept_pattern self.now.kept.words.now).steps - 1 - depth) (chosen at.now depth) i }
+        ensures reach { depth ≡ 1 → result < slice_index at.now 0 → nat_le last.time ((nth self.now.held result).time + (kept_pattern self.now.kept.words.now).within) ≡ true }
         ensures behind { 1 < depth → result ≡ slice_index at.now (depth - 1) + 1 }
     {
         if depth == 1 {
@@ -186,11 +170,11 @@ impl Search<'_> {
 
     // Where the positions of a depth below the last event's begin. Those of the last but one event begin where the last one stands that a
     // never without tests forbids before the last event: it would be between.
-    pub fn level_start(self, at: &[usize; LEVELS], last: Event, depth: usize) -> usize
-        requires le_depth { (1 ≤ depth) × ((depth < kept_count self.kept.words.now) × (last ≡ nth (held self.held.front.now self.held.back.now) (slice_index at.now 0))) }
-        requires at_bound { (slice_index at.now 0 ≤ how_many self.held.front.now self.held.back.now) × ((1 < depth → slice_index at.now (depth - 1) < slice_index at.now 0)) }
+    pub fn level_start(&self, at: &[usize; LEVELS], last: Event, depth: usize) -> usize
+        requires le_depth { (1 ≤ depth) × ((depth < kept_count self.now.kept.words.now) × (last ≡ nth self.now.held (slice_index at.now 0))) }
+        requires at_bound { (slice_index at.now 0 ≤ length self.now.held) × ((1 < depth → slice_index at.now (depth - 1) < slice_index at.now 0)) }
         ensures bounds { (row_lo (chosen at.now depth) ≤ result) × (result ≤ slice_index at.now 0) }
-        ensures passed { (upto i : ℕ) → row_lo (chosen at.now depth) ≤ i → i < result → Barren (space (held self.entry.held.front.now self.entry.held.back.now) (kept_pattern self.entry.kept.words.now) upto) (length (kept_pattern self.entry.kept.words.now).steps - 1 - depth) (chosen at.now depth) i }
+        ensures passed { (upto i : ℕ) → row_lo (chosen at.now depth) ≤ i → i < result → Barren (space self.now.held (kept_pattern self.now.kept.words.now) upto) (length (kept_pattern self.now.kept.words.now).steps - 1 - depth) (chosen at.now depth) i }
     {
         let first = self.first_place(at, last, depth);
         if depth + 1 != self.kept.steps() {
@@ -203,12 +187,12 @@ impl Search<'_> {
     }
 
     // The events of the first so many positions; zeros behind.
-    pub fn events_at(self, at: &[usize; LEVELS], many: usize) -> [Event; LEVELS]
-        requires { (many ≤ 6) × (((j : ℕ) → j < many → slice_index at.now j < how_many self.held.front.now self.held.back.now)) }
-        ensures events { (j : ℕ) → j < many → slice_index_or result j nothing ≡ nth (held self.entry.held.front.now self.entry.held.back.now) (slice_index at.now j) }
+    pub fn events_at(&self, at: &[usize; LEVELS], many: usize) -> [Event; LEVELS]
+        requires { (many ≤ 6) × (((j : ℕ) → j < many → slice_index at.now j < length self.now.held)) }
+        ensures events { (j : ℕ) → j < many → slice_index_or result j nothing ≡ nth self.now.held (slice_index at.now j) }
         ensures behind { (j : ℕ) → many ≤ j → slice_index_or result j nothing ≡ nothing }
     {
-        let mut row = [NOTHING; LEVELS];
+        let mut row = [Event::NOTHING; LEVELS];
         for j in 0..many {
             row[j] = self.held.get(at[j]);
         }

@@ -2,8 +2,6 @@
 ghost use Rattle.rows.specs.Night.{WorkedNight};
 
 // What is heard to, what is too late and what becomes known, event by event.
-pub fn worked_night() -> u8
+pub fn worked_night()
     ensures { WorkedNight }
-{
-    0
-}
+{}

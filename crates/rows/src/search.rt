@@ -3,12 +3,13 @@ ghost use Rattle.std.specs.Prelude.{◌≡◌, ◌+◌, ◌-◌, ◌<◌, ◌≤
 ghost use Rattle.timeline.specs.Lists.{every, run};
 ghost use Rattle.timeline.specs.Ring.{decode};
 ghost use Rattle.patterns.specs.Kept.{kept_pattern};
-ghost use Rattle.rows.specs.Held.{held, number_at, six_of};
+ghost use Rattle.rows.specs.Held.{number_at, six_of};
 ghost use Rattle.rows.specs.Finding.{to_come, behind, found_first, placed, next_found};
 
 use crate::held::Held;
 use crate::levels::{LEVELS, Search, level_end};
 use patterns::Kept;
+use std::array;
 use timeline::Event;
 
 // A place in the search: how many positions are chosen, and six of them, the last event's first, then the first event's, the second's, and
@@ -46,14 +47,7 @@ fn told(at: [usize; LEVELS], row: &[Event; LEVELS], steps: usize) -> Found
     let mut next = at;
     next[steps - 1] += 1;
     Found {
-        numbers: [
-            number_at(row, steps, 0),
-            number_at(row, steps, 1),
-            number_at(row, steps, 2),
-            number_at(row, steps, 3),
-            number_at(row, steps, 4),
-            number_at(row, steps, 5),
-        ],
+        numbers: array::from_fn(|place| number_at(row, steps, place)),
         next: Cursor {
             depth: steps - 1,
             at: next,
@@ -66,12 +60,7 @@ fn all_below(at: [usize; LEVELS], many: usize, bound: usize) -> bool
     requires { many ≤ 6 }
     ensures { result ≡ every (λ j. nat_lt (slice_index at j) bound) (run 0 many) }
 {
-    for j in 0..many {
-        if at[j] >= bound {
-            return false;
-        }
-    }
-    true
+    at[..many].iter().all(|p| *p < bound)
 }
 
 // Whether a search of so many steps among so many events can be at a cursor.
@@ -89,9 +78,9 @@ fn is_placed(count: usize, upto: usize, steps: usize, cursor: Cursor) -> bool
 
 impl Search<'_> {
     // The first row from a cursor on: the last event is chosen first, then the others from the first on, each behind the one before.
-    fn first_row(self, upto: usize, cursor: Cursor) -> Option<Found>
-        requires { placed (length (held self.held.front.now self.held.back.now)) upto (length (kept_pattern self.kept.words.now).steps) cursor ≡ true }
-        ensures { result ≡ found_first (held self.entry.held.front.now self.entry.held.back.now) (kept_pattern self.entry.kept.words.now) cursor (to_come (held self.entry.held.front.now self.entry.held.back.now) (kept_pattern self.entry.kept.words.now) upto cursor) }
+    fn first_row(&self, upto: usize, cursor: Cursor) -> Option<Found>
+        requires { placed (length self.now.held) upto (length (kept_pattern self.now.kept.words.now).steps) cursor ≡ true }
+        ensures { result ≡ found_first self.now.held (kept_pattern self.now.kept.words.now) cursor (to_come self.now.held (kept_pattern self.now.kept.words.now) upto cursor) }
     {
         let steps = self.kept.steps();
         let mut at = cursor.at;
@@ -137,7 +126,7 @@ pub fn next_row<'a>(
     ensures { result ≡ next_found (decode front.now ++ decode back.now) (kept_pattern kept.entry.words.now) upto cursor }
 {
     let search = Search {
-        held: Held { front, back },
+        held: Held::over(front, back),
         kept,
     };
     if !is_placed(search.held.count(), upto, kept.steps(), cursor) {

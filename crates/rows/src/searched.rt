@@ -2,36 +2,26 @@
 ghost use Rattle.rows.specs.SearchLaws.{RowsOfOne, RowsInOrder, RestIs, GoesOn, IsOver};
 
 // The rows found of one last event are the definition's that end with it.
-pub fn rows_of_one() -> u8
+pub fn rows_of_one()
     ensures { RowsOfOne }
-{
-    0
-}
+{}
 
 // All rows found are all of the definition, in the order in which they are told.
-pub fn rows_in_order() -> u8
+pub fn rows_in_order()
     ensures { RowsInOrder }
-{
-    0
-}
+{}
 
 // From one last event to another: the rows that end there.
-pub fn rest_is() -> u8
+pub fn rest_is()
     ensures { RestIs }
-{
-    0
-}
+{}
 
 // After a row was told, the others are to come.
-pub fn goes_on() -> u8
+pub fn goes_on()
     ensures { GoesOn }
-{
-    0
-}
+{}
 
 // Where none is told, none is to come.
-pub fn is_over() -> u8
+pub fn is_over()
     ensures { IsOver }
-{
-    0
-}
+{}

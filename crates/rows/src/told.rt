@@ -9,27 +9,18 @@ use timeline::Event;
 pub(crate) fn last_of(row: &[Event]) -> Event
     ensures { result ≡ last_of row.now }
 {
-    match row.last() {
-        Some(last) => *last,
-        None => Event {
-            heard: 0,
-            time: 0,
-            kind: 0,
-            who: 0,
-            value: 0,
-        },
-    }
+    row.last().copied().unwrap_or(Event::NOTHING)
 }
 
 // Event by event from the first.
 fn row_before(a: &[Event], b: &[Event]) -> bool
     ensures { result ≡ row_before a.now b.now }
 {
-    for i in 0..a.len().min(b.len()) {
-        if a[i].before(b[i]) {
+    for (x, y) in a.iter().zip(b) {
+        if x.before(*y) {
             return true;
         }
-        if b[i].before(a[i]) {
+        if y.before(*x) {
             return false;
         }
     }

@@ -1,10 +1,10 @@
-use Rattle.std.proofs.Common.{ltb, get_or, sym, arith}
-use Rattle.std.proofs.lemmas.Bool.{le-ltb}
-use Rattle.rows.proofs.Chosen.{every_run, every_not}
+use Rattle.std.proofs.Common.{◌+◌, ltb, take, ◌∙◌, rules, tests, arith}
+use Rattle.std.proofs.lemmas.Iterator.{YieldsList-from_slice}
+use Rattle.std.proofs.lemmas.Iterator.Search.{all_from_yields_List}
+use Rattle.rows.proofs.Chosen.{every_taken}
 use Rattle.rows.proofs.search.all_below.Goals as goal
 
-pub returns-then-at-j : goal.returns-then-at-j
-returns-then-at-j c = sym (every_not (λ j. ltb (get_or c.args.at j 0) c.args.bound) c.args.many 0 c.loop-j.j (omega arith) (omega (arith, c.loop-j-test.true)) (le-ltb _ _ c.if-at-j.true))
-
 pub returns : goal.returns
-returns c = sym (every_run (λ j. ltb (get_or c.args.at j 0) c.args.bound) c.args.many 0 (λ j k l. c.loop-j.invariant j (omega (arith, c.loop-j-test.false))))
+returns c =
+    all_from_yields_List (λ p. ltb p c.args.bound) _ _ c.all.result c.all.ensures.ran (YieldsList-from_slice (take c.args.many c.args.at) c.iter.ensures.rest) (λ x b q k. search (rules, tests))
+    ∙ every_taken (λ p. ltb p c.args.bound) c.args.at c.args.many 0 (omega arith)

@@ -1,19 +1,26 @@
-use Rattle.std.proofs.Common.{sym, arith}
-use Rattle.timeline.specs.Order.{nothing}
+use Rattle.std.proofs.Common.{◌≡◌, false, true, length, sym, ap, inl, inr, arith}
+use Rattle.std.specs.Iterator.Adapters.{zip_first, zip_second}
+use Rattle.std.specs.Slice.Iter.{iter_rest}
 use Rattle.rows.proofs.Telling.{row_first, row_second, row_same, row_over}
 use Rattle.rows.proofs.told.row_before.Goals as goal
 
 pub returns-then-before : goal.returns-then-before
-returns-then-before c =
-    sym (row_first c.args.a.now c.args.b.now c.loop-i.i nothing (omega arith) c.loop-i.invariant (sym c.if-before.ensures))
+returns-then-before c = sym (row_first c.args.a.now c.args.b.now _ _ c.loop-x.invariant.2 c.in-Some.x.now c.in-Some.y.now _ _ c.in-Some.ensures.steps (sym c.if-before.ensures))
 
 pub returns-then-before-2 : goal.returns-then-before-2
 returns-then-before-2 c =
-    sym (row_second c.args.a.now c.args.b.now c.loop-i.i nothing (omega arith) c.loop-i.invariant (sym c.if-before.ensures) (sym c.if-before-2.ensures))
+    sym (row_second c.args.a.now c.args.b.now _ _ c.loop-x.invariant.2 c.in-Some.x.now c.in-Some.y.now _ _ c.in-Some.ensures.steps (sym c.if-before.ensures) (sym c.if-before-2.ensures))
 
-pub loop-i-preserved : goal.loop-i-preserved
-loop-i-preserved c =
-    row_same c.args.a.now c.args.b.now c.loop-i.i nothing (omega arith) c.loop-i.invariant (sym c.if-before.ensures) (sym c.if-before-2.ensures)
+pub loop-x-preserved : goal.loop-x-preserved
+loop-x-preserved c =
+    let e = c.in-Some.ensures.steps in
+    let l = c.loop-x.invariant.3 in (
+      (tt, tt),
+      tt,
+      row_same c.args.a.now c.args.b.now _ _ c.loop-x.invariant.2 c.in-Some.x.now c.in-Some.y.now _ _ e (sym c.if-before.ensures) (sym c.if-before-2.ensures),
+      omega (arith, l, ap length e.0, ap length e.1),
+    )
 
 pub returns : goal.returns
-returns c = row_over c.args.a.now c.args.b.now c.loop-i.i (omega arith) c.loop-i.invariant
+returns c =
+    row_over c.args.a.now c.args.b.now _ _ c.loop-x.invariant.2 c.loop-x.invariant.3 (elim c.in-None.ensures.steps [ inl w ↦ inl w.1.0 | inr w ↦ inr w.1.0 ])

@@ -1,4 +1,5 @@
+use Rattle.std.proofs.Common.{rules}
 use Rattle.rows.proofs.held.Held.next_of_kind.Goals as goal
 
-pub returns : goal.returns
-returns c = record { bounds = c.next_of_kinds.ensures.bounds; passed = λ i l k. (c.next_of_kinds.ensures.passed i l k).0; stops = c.next_of_kinds.ensures.stops }
+pub returns-clause-passed : goal.returns-clause-passed
+returns-clause-passed c = λ i l k. let e = c.first.ensures.passed i l k in search rules

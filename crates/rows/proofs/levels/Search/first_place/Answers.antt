@@ -2,15 +2,14 @@ use Rattle.std.proofs.Common.{◌+◌, leb, sym, refl, ap, ◌∙◌, ap₂, ari
 use Rattle.timeline.specs.Order.{nth}
 use Rattle.patterns.specs.Kept.{kept_pattern}
 use Rattle.patterns.proofs.Steps.{steps_long}
-use Rattle.rows.specs.Held.{held}
 use Rattle.rows.proofs.Pruning.{starts_first, starts_next}
 use Rattle.rows.proofs.levels.Search.first_place.Goals as goal
 
 pub returns-then-depth-eq1 : goal.returns-then-depth-eq1
 returns-then-depth-eq1 c =
-    let h = held c.args.self.held.front.now c.args.self.held.back.now in
-    let s = starts_first h (kept_pattern c.args.self.kept.words.now) c.args.at.now c.args.depth c.first_in_reach.result c.if-depth-eq1.true
-    (omega (arith, c.requires.le_depth.1.0, steps_long c.args.self.kept.words.now)) c.first_in_reach.ensures.bounds
+    let h = c.args.self.now.held in
+    let s = starts_first h (kept_pattern c.args.self.now.kept.words.now) c.args.at.now c.args.depth c.first_in_reach.result c.if-depth-eq1.true
+    (omega (arith, c.requires.le_depth.1.0, steps_long c.args.self.now.kept.words.now)) c.first_in_reach.ensures.bounds
     (λ i l.
     ap₂ (λ t w. leb t ((nth h i).time + w)) (sym (ap (λ e. e.time) c.requires.le_depth.1.1)) (sym c.within-within.ensures) ∙ c.first_in_reach.ensures.passed i l) in
     record {
@@ -22,6 +21,6 @@ returns-then-depth-eq1 c =
 
 pub returns : goal.returns
 returns c =
-    let s = starts_next (held c.args.self.held.front.now c.args.self.held.back.now) (kept_pattern c.args.self.kept.words.now) c.args.at.now c.args.depth
+    let s = starts_next c.args.self.now.held (kept_pattern c.args.self.now.kept.words.now) c.args.at.now c.args.depth
     (let n = c.if-depth-eq1.false in omega (arith, c.requires.le_depth.0)) (c.requires.at_bound.1 (let n = c.if-depth-eq1.false in omega (arith, c.requires.le_depth.0))) in
     record { bounds = s.0; passed = s.1; reach = λ e _. absurd (c.if-depth-eq1.false e); behind = λ _. refl }

@@ -3,56 +3,56 @@ use Rattle.rows.proofs.FirstRow.{events_ready, start, over, goes_back, candidate
 use Rattle.rows.proofs.levels.Search.first_row.Goals as goal
 
 pub events_at-row-requires : goal.events_at-row-requires
-events_at-row-requires c = events_ready c.args.self.held.front.now c.args.self.held.back.now c.args.self.kept.words.now c.args.upto c.args.cursor c.requires c.steps-steps.result c.steps-steps.ensures
+events_at-row-requires c = events_ready c.args.self.now.held c.args.self.now.kept.words.now c.args.upto c.args.cursor c.requires c.steps-steps.result c.steps-steps.ensures
 
 pub moves-init : goal.moves-init
 moves-init c =
     let l : length c.args.cursor.at ≡ 6 = search rules in
     let k : length c.events_at-row.result ≡ 6 = search rules in
-    start c.args.self.held.front.now c.args.self.held.back.now c.args.self.kept.words.now c.args.upto c.args.cursor c.requires c.steps-steps.result c.steps-steps.ensures c.events_at-row.result l k c.events_at-row.ensures.events
+    start c.args.self.now.held c.args.self.now.kept.words.now c.args.upto c.args.cursor c.requires c.steps-steps.result c.steps-steps.ensures c.events_at-row.result l k c.events_at-row.ensures.events
 
 pub returns-then-depth-eq0 : goal.returns-then-depth-eq0
-returns-then-depth-eq0 c = over c.args.self.held.front.now c.args.self.held.back.now c.args.self.kept.words.now c.args.upto c.args.cursor c.requires c.steps-steps.result c.steps-steps.ensures c.moves.at c.moves.row c.moves.depth c.moves.invariant c.level_end-end.result c.level_end-end.ensures c.if-depth-eq0.true (omega (arith, c.if-at-depth.true))
+returns-then-depth-eq0 c = over c.args.self.now.held c.args.self.now.kept.words.now c.args.upto c.args.cursor c.requires c.steps-steps.result c.steps-steps.ensures c.moves.at c.moves.row c.moves.depth c.moves.invariant c.level_end-end.result c.level_end-end.ensures c.if-depth-eq0.true (omega (arith, c.if-at-depth.true))
 
 pub moves-preserved-then-at-depth : goal.moves-preserved-then-at-depth
-moves-preserved-then-at-depth c = (goes_back c.args.self.held.front.now c.args.self.held.back.now c.args.self.kept.words.now c.args.upto c.args.cursor c.requires c.steps-steps.result c.steps-steps.ensures c.moves.at c.moves.row c.moves.depth c.moves.invariant c.level_end-end.result c.level_end-end.ensures c.if-depth-eq0.false (omega (arith, c.if-at-depth.true))).0
+moves-preserved-then-at-depth c = (goes_back c.args.self.now.held c.args.self.now.kept.words.now c.args.upto c.args.cursor c.requires c.steps-steps.result c.steps-steps.ensures c.moves.at c.moves.row c.moves.depth c.moves.invariant c.level_end-end.result c.level_end-end.ensures c.if-depth-eq0.false (omega (arith, c.if-at-depth.true))).0
 
 pub moves-smaller-then-at-depth : goal.moves-smaller-then-at-depth
-moves-smaller-then-at-depth c = (goes_back c.args.self.held.front.now c.args.self.held.back.now c.args.self.kept.words.now c.args.upto c.args.cursor c.requires c.steps-steps.result c.steps-steps.ensures c.moves.at c.moves.row c.moves.depth c.moves.invariant c.level_end-end.result c.level_end-end.ensures c.if-depth-eq0.false (omega (arith, c.if-at-depth.true))).1
+moves-smaller-then-at-depth c = (goes_back c.args.self.now.held c.args.self.now.kept.words.now c.args.upto c.args.cursor c.requires c.steps-steps.result c.steps-steps.ensures c.moves.at c.moves.row c.moves.depth c.moves.invariant c.level_end-end.result c.level_end-end.ensures c.if-depth-eq0.false (omega (arith, c.if-at-depth.true))).1
 
 pub next_asked-p-requires : goal.next_asked-p-requires
 next_asked-p-requires c =
-    let all = candidate_ready c.args.self.held.front.now c.args.self.held.back.now c.args.self.kept.words.now c.args.upto c.args.cursor c.requires c.steps-steps.result c.steps-steps.ensures c.moves.at c.moves.row c.moves.depth c.moves.invariant c.level_end-end.result c.level_end-end.ensures (omega (arith, c.if-at-depth.false)) in
+    let all = candidate_ready c.args.self.now.held c.args.self.now.kept.words.now c.args.upto c.args.cursor c.requires c.steps-steps.result c.steps-steps.ensures c.moves.at c.moves.row c.moves.depth c.moves.invariant c.level_end-end.result c.level_end-end.ensures (omega (arith, c.if-at-depth.false)) in
     record { depth_bound = all.0; along = all.1 }
 
 pub moves-preserved-then-p-end : goal.moves-preserved-then-p-end
-moves-preserved-then-p-end c = (goes_far c.args.self.held.front.now c.args.self.held.back.now c.args.self.kept.words.now c.args.upto c.args.cursor c.requires c.steps-steps.result c.steps-steps.ensures c.moves.at c.moves.row c.moves.depth c.moves.invariant c.level_end-end.result c.level_end-end.ensures c.next_asked-p.result c.next_asked-p.ensures.bounds c.next_asked-p.ensures.passed (omega (arith, c.if-at-depth.false)) c.if-p-end.true).0
+moves-preserved-then-p-end c = (goes_far c.args.self.now.held c.args.self.now.kept.words.now c.args.upto c.args.cursor c.requires c.steps-steps.result c.steps-steps.ensures c.moves.at c.moves.row c.moves.depth c.moves.invariant c.level_end-end.result c.level_end-end.ensures c.next_asked-p.result c.next_asked-p.ensures.bounds c.next_asked-p.ensures.passed (omega (arith, c.if-at-depth.false)) c.if-p-end.true).0
 
 pub moves-smaller-then-p-end : goal.moves-smaller-then-p-end
-moves-smaller-then-p-end c = (goes_far c.args.self.held.front.now c.args.self.held.back.now c.args.self.kept.words.now c.args.upto c.args.cursor c.requires c.steps-steps.result c.steps-steps.ensures c.moves.at c.moves.row c.moves.depth c.moves.invariant c.level_end-end.result c.level_end-end.ensures c.next_asked-p.result c.next_asked-p.ensures.bounds c.next_asked-p.ensures.passed (omega (arith, c.if-at-depth.false)) c.if-p-end.true).1
+moves-smaller-then-p-end c = (goes_far c.args.self.now.held c.args.self.now.kept.words.now c.args.upto c.args.cursor c.requires c.steps-steps.result c.steps-steps.ensures c.moves.at c.moves.row c.moves.depth c.moves.invariant c.level_end-end.result c.level_end-end.ensures c.next_asked-p.result c.next_asked-p.ensures.bounds c.next_asked-p.ensures.passed (omega (arith, c.if-at-depth.false)) c.if-p-end.true).1
 
 pub get-requires : goal.get-requires
-get-requires c = get_ready c.args.self.held.front.now c.args.self.held.back.now c.args.self.kept.words.now c.args.upto c.args.cursor c.requires c.steps-steps.result c.steps-steps.ensures c.moves.at c.moves.row c.moves.depth c.moves.invariant c.level_end-end.result c.level_end-end.ensures c.next_asked-p.result c.next_asked-p.ensures.bounds c.next_asked-p.ensures.passed c.if-p-end.false
+get-requires c = get_ready c.args.self.now.held c.args.self.now.kept.words.now c.args.upto c.args.cursor c.requires c.steps-steps.result c.steps-steps.ensures c.moves.at c.moves.row c.moves.depth c.moves.invariant c.level_end-end.result c.level_end-end.ensures c.next_asked-p.result c.next_asked-p.ensures.bounds c.next_asked-p.ensures.passed c.if-p-end.false
 
 pub may_stand-requires : goal.may_stand-requires
-may_stand-requires c = stand_ready c.args.self.held.front.now c.args.self.held.back.now c.args.self.kept.words.now c.args.upto c.args.cursor c.requires c.steps-steps.result c.steps-steps.ensures c.moves.at c.moves.row c.moves.depth c.moves.invariant c.level_end-end.result c.level_end-end.ensures c.next_asked-p.result c.next_asked-p.ensures.bounds c.next_asked-p.ensures.passed c.if-p-end.false c.get.result c.get.ensures
+may_stand-requires c = stand_ready c.args.self.now.held c.args.self.now.kept.words.now c.args.upto c.args.cursor c.requires c.steps-steps.result c.steps-steps.ensures c.moves.at c.moves.row c.moves.depth c.moves.invariant c.level_end-end.result c.level_end-end.ensures c.next_asked-p.result c.next_asked-p.ensures.bounds c.next_asked-p.ensures.passed c.if-p-end.false c.get.result c.get.ensures
 
 pub moves-preserved-then-not-may_stand : goal.moves-preserved-then-not-may_stand
-moves-preserved-then-not-may_stand c = (goes_on c.args.self.held.front.now c.args.self.held.back.now c.args.self.kept.words.now c.args.upto c.args.cursor c.requires c.steps-steps.result c.steps-steps.ensures c.moves.at c.moves.row c.moves.depth c.moves.invariant c.level_end-end.result c.level_end-end.ensures c.next_asked-p.result c.next_asked-p.ensures.bounds c.next_asked-p.ensures.passed c.if-p-end.false c.get.result c.get.ensures c.if-not-may_stand.ensures).0
+moves-preserved-then-not-may_stand c = (goes_on c.args.self.now.held c.args.self.now.kept.words.now c.args.upto c.args.cursor c.requires c.steps-steps.result c.steps-steps.ensures c.moves.at c.moves.row c.moves.depth c.moves.invariant c.level_end-end.result c.level_end-end.ensures c.next_asked-p.result c.next_asked-p.ensures.bounds c.next_asked-p.ensures.passed c.if-p-end.false c.get.result c.get.ensures c.if-not-may_stand.ensures).0
 
 pub moves-smaller-then-not-may_stand : goal.moves-smaller-then-not-may_stand
-moves-smaller-then-not-may_stand c = (goes_on c.args.self.held.front.now c.args.self.held.back.now c.args.self.kept.words.now c.args.upto c.args.cursor c.requires c.steps-steps.result c.steps-steps.ensures c.moves.at c.moves.row c.moves.depth c.moves.invariant c.level_end-end.result c.level_end-end.ensures c.next_asked-p.result c.next_asked-p.ensures.bounds c.next_asked-p.ensures.passed c.if-p-end.false c.get.result c.get.ensures c.if-not-may_stand.ensures).1
+moves-smaller-then-not-may_stand c = (goes_on c.args.self.now.held c.args.self.now.kept.words.now c.args.upto c.args.cursor c.requires c.steps-steps.result c.steps-steps.ensures c.moves.at c.moves.row c.moves.depth c.moves.invariant c.level_end-end.result c.level_end-end.ensures c.next_asked-p.result c.next_asked-p.ensures.bounds c.next_asked-p.ensures.passed c.if-p-end.false c.get.result c.get.ensures c.if-not-may_stand.ensures).1
 
 pub returns-then-depth-steps : goal.returns-then-depth-steps
-returns-then-depth-steps c = tells c.args.self.held.front.now c.args.self.held.back.now c.args.self.kept.words.now c.args.upto c.args.cursor c.requires c.steps-steps.result c.steps-steps.ensures c.moves.at c.moves.row c.moves.depth c.moves.invariant c.level_end-end.result c.level_end-end.ensures c.next_asked-p.result c.next_asked-p.ensures.bounds c.next_asked-p.ensures.passed c.if-p-end.false c.get.result c.get.ensures c.if-not-may_stand.ensures c.told.result c.if-depth-steps.true c.told.ensures
+returns-then-depth-steps c = tells c.args.self.now.held c.args.self.now.kept.words.now c.args.upto c.args.cursor c.requires c.steps-steps.result c.steps-steps.ensures c.moves.at c.moves.row c.moves.depth c.moves.invariant c.level_end-end.result c.level_end-end.ensures c.next_asked-p.result c.next_asked-p.ensures.bounds c.next_asked-p.ensures.passed c.if-p-end.false c.get.result c.get.ensures c.if-not-may_stand.ensures c.told.result c.if-depth-steps.true c.told.ensures
 
 pub level_start-requires : goal.level_start-requires
 level_start-requires c =
-    let all = start_ready c.args.self.held.front.now c.args.self.held.back.now c.args.self.kept.words.now c.args.upto c.args.cursor c.requires c.steps-steps.result c.steps-steps.ensures c.moves.at c.moves.row c.moves.depth c.moves.invariant c.level_end-end.result c.level_end-end.ensures c.next_asked-p.result c.next_asked-p.ensures.bounds c.next_asked-p.ensures.passed c.if-p-end.false c.get.result c.get.ensures c.if-not-may_stand.ensures c.if-depth-steps.false in
+    let all = start_ready c.args.self.now.held c.args.self.now.kept.words.now c.args.upto c.args.cursor c.requires c.steps-steps.result c.steps-steps.ensures c.moves.at c.moves.row c.moves.depth c.moves.invariant c.level_end-end.result c.level_end-end.ensures c.next_asked-p.result c.next_asked-p.ensures.bounds c.next_asked-p.ensures.passed c.if-p-end.false c.get.result c.get.ensures c.if-not-may_stand.ensures c.if-depth-steps.false in
     record { le_depth = all.0; at_bound = all.1 }
 
 pub moves-preserved : goal.moves-preserved
-moves-preserved c = (goes_down c.args.self.held.front.now c.args.self.held.back.now c.args.self.kept.words.now c.args.upto c.args.cursor c.requires c.steps-steps.result c.steps-steps.ensures c.moves.at c.moves.row c.moves.depth c.moves.invariant c.level_end-end.result c.level_end-end.ensures c.next_asked-p.result c.next_asked-p.ensures.bounds c.next_asked-p.ensures.passed c.if-p-end.false c.get.result c.get.ensures c.if-not-may_stand.ensures c.if-depth-steps.false c.level_start.result (c.level_start.ensures.bounds, c.level_start.ensures.passed)).0
+moves-preserved c = (goes_down c.args.self.now.held c.args.self.now.kept.words.now c.args.upto c.args.cursor c.requires c.steps-steps.result c.steps-steps.ensures c.moves.at c.moves.row c.moves.depth c.moves.invariant c.level_end-end.result c.level_end-end.ensures c.next_asked-p.result c.next_asked-p.ensures.bounds c.next_asked-p.ensures.passed c.if-p-end.false c.get.result c.get.ensures c.if-not-may_stand.ensures c.if-depth-steps.false c.level_start.result (c.level_start.ensures.bounds, c.level_start.ensures.passed)).0
 
 pub moves-smaller : goal.moves-smaller
-moves-smaller c = (goes_down c.args.self.held.front.now c.args.self.held.back.now c.args.self.kept.words.now c.args.upto c.args.cursor c.requires c.steps-steps.result c.steps-steps.ensures c.moves.at c.moves.row c.moves.depth c.moves.invariant c.level_end-end.result c.level_end-end.ensures c.next_asked-p.result c.next_asked-p.ensures.bounds c.next_asked-p.ensures.passed c.if-p-end.false c.get.result c.get.ensures c.if-not-may_stand.ensures c.if-depth-steps.false c.level_start.result (c.level_start.ensures.bounds, c.level_start.ensures.passed)).1
+moves-smaller c = (goes_down c.args.self.now.held c.args.self.now.kept.words.now c.args.upto c.args.cursor c.requires c.steps-steps.result c.steps-steps.ensures c.moves.at c.moves.row c.moves.depth c.moves.invariant c.level_end-end.result c.level_end-end.ensures c.next_asked-p.result c.next_asked-p.ensures.bounds c.next_asked-p.ensures.passed c.if-p-end.false c.get.result c.get.ensures c.if-not-may_stand.ensures c.if-depth-steps.false c.level_start.result (c.level_start.ensures.bounds, c.level_start.ensures.passed)).1

@@ -1,11 +1,10 @@
 use Rattle.patterns.specs.Kept.{kept_pattern}
-use Rattle.rows.specs.Held.{held}
 use Rattle.rows.proofs.Searching.{Going, moves_left}
 use Rattle.rows.proofs.levels.Search.first_row.Given as goal
 
 abbrev pub invariant-moves : goal.invariant-moves
 invariant-moves l =
-    Going l.steps (held l.self.held.front.now l.self.held.back.now) (kept_pattern l.self.kept.words.now) l.upto (record { depth = l.initial.depth; at = l.initial.at }) l.at l.row
+    Going l.steps l.self.held (kept_pattern l.self.kept.words.now) l.upto (record { depth = l.initial.depth; at = l.initial.at }) l.at l.row
     l.depth
 
 abbrev pub decreases-moves : goal.decreases-moves

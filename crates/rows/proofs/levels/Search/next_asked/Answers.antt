@@ -1,15 +1,15 @@
 use Rattle.std.proofs.Common.{ap, ◌∙◌, arith}
 use Rattle.timeline.specs.Order.{nth}
 use Rattle.patterns.specs.Kept.{kept_step}
-use Rattle.rows.specs.Held.{held, level_step}
+use Rattle.rows.specs.Held.{level_step}
 use Rattle.rows.proofs.Pruning.{kept_kind_not}
 use Rattle.rows.proofs.OtherWho.{either_who}
 use Rattle.rows.proofs.levels.Search.next_asked.Goals as goal
 
 pub returns : goal.returns
 returns c =
-    let words = c.args.self.kept.words.now in
-    let h = held c.args.self.held.front.now c.args.self.held.back.now in
+    let words = c.args.self.now.kept.words.now in
+    let h = c.args.self.now.held in
     record {
       bounds = c.next_of_who.ensures.bounds;
       passed = λ i l k.

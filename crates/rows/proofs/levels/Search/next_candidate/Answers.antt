@@ -1,16 +1,16 @@
 use Rattle.std.proofs.Common.{ap, ◌∙◌}
 use Rattle.patterns.specs.Kept.{kept_step}
-use Rattle.rows.specs.Held.{held, level_step}
+use Rattle.rows.specs.Held.{level_step}
 use Rattle.rows.proofs.Pruning.{kept_kind_not}
 use Rattle.rows.proofs.levels.Search.next_candidate.Goals as goal
 
 pub returns : goal.returns
 returns c =
-    let words = c.args.self.kept.words.now in
+    let words = c.args.self.now.kept.words.now in
     record {
       bounds = c.next_of_kind.ensures.bounds;
       passed = λ i l k.
-          kept_kind_not (held c.args.self.held.front.now c.args.self.held.back.now) words c.args.at.now c.args.depth i c.kind_of-kind.result c.requires.0
+          kept_kind_not c.args.self.now.held words c.args.at.now c.args.depth i c.kind_of-kind.result c.requires.0
           (c.kind_of-kind.ensures ∙ ap (λ s. (kept_step words s).kind) (c.level_step.ensures ∙ ap (λ n. level_step n c.args.depth) c.steps.ensures))
           (c.next_of_kind.ensures.passed i l k);
     }
