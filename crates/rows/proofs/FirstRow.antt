@@ -30,9 +30,9 @@ module _ (h : List Event) (words : List ℕ) (upto : ℕ) (cur : Cursor)
   pub events_ready : (cur.depth ≤ 6) × ((j : ℕ) → j < cur.depth → get_or cur.at j 0 < length h)
   events_ready = (omega (arith, w.deep, w.few), λ j l. omega (arith, w.before j l, w.short))
 
-  pub start : (row : List Event) → length cur.at ≡ 6 → length row ≡ 6 → ((j : ℕ) → j < cur.depth → get_or row j nothing ≡ nth h (get_or cur.at j 0))
-      → Going steps h p upto cur cur.at row cur.depth
-  start row l k a = going steps h p upto cur cur.at row cur.depth n w.few (begins h p upto (length h) cur row w l k a)
+  pub start : (at : List ℕ) (row : List Event) (d : ℕ) → at ≡ cur.at → d ≡ cur.depth → length cur.at ≡ 6 → length row ≡ 6 → ((j : ℕ) → j < cur.depth → get_or row j nothing ≡ nth h (get_or cur.at j 0))
+      → Going steps h p upto cur at row d
+  start at row d e f l k a = rw (e, f) (going steps h p upto cur cur.at row cur.depth n w.few (begins h p upto (length h) cur row w l k a))
 
   -- at the head of the loop
   module _ (at : List ℕ) (row : List Event) (d : ℕ) (g : Going steps h p upto cur at row d) (end : ℕ) (is-end : end ≡ row_hi upto (chosen at d)) where
@@ -51,9 +51,11 @@ module _ (h : List Event) (words : List ℕ) (upto : ℕ) (cur : Cursor)
     top : end ≤ upto
     top = omega (arith, hi_small upto at d (omega (arith, g.0, g.1, g.2)) g.4.came.before)
 
-    pub candidate_ready : get_or at d 0 < end → ((d < kept_count words) × ((get_or at d 0 ≤ end) × (end ≤ length h))) × Along h at row d
+    pub candidate_ready : get_or at d 0 < end → (d < kept_count words) × (get_or at d 0 ≤ end) × (end ≤ length h) × Along h at row d
     candidate_ready l = (
-      (omega (arith, g.0), (omega arith, omega (arith, top, w.short))),
+      omega (arith, g.0),
+      omega arith,
+      omega (arith, top, w.short),
       record { inside = λ j k. omega (arith, g.4.came.before j k, w.short); are = g.4.are },
     )
 
@@ -93,18 +95,18 @@ module _ (h : List Event) (words : List ℕ) (upto : ℕ) (cur : Cursor)
               ∙ moves_found h p upto cur w.few w.short at row d g.4 v bounds.0 in_level passed under e is (sym ok) (omega (arith, n))
 
           pub start_ready : (d + 1 ≡ steps → ⊥)
-              → ((1 ≤ d + 1) × ((d + 1 < kept_count words) × (get_or (set row d e) 0 nothing ≡ nth h (get_or (set at d v) 0 0))))
-              × ((get_or (set at d v) 0 0 ≤ length h) × (1 < d + 1 → get_or (set at d v) (d + 1 - 1) 0 < get_or (set at d v) 0 0))
+              → (1 ≤ d + 1) × (d + 1 < kept_count words) × (get_or (set row d e) 0 nothing ≡ nth h (get_or (set at d v) 0 0))
+              × (get_or (set at d v) 0 0 ≤ length h) × (1 < d + 1 → get_or (set at d v) (d + 1 - 1) 0 < get_or (set at d v) 0 0)
           start_ready q =
               let i = under_end h p upto cur w.few w.short at row d g.4 v bounds.0 in_level passed under e is in (
-                (omega arith, (omega (arith, g.0), along.are 0 (omega arith))),
-                (
-                  omega (arith, along.inside 0 (omega arith)),
-                  λ o.
-                      let z : d + 1 - 1 ≡ d = omega arith in
-                      let last = hi_deep upto (set at d v) d (λ x. omega arith) (omega (arith, length-set at d v, g.0, g.1, g.2)) in
-                      rw z (omega arith),
-                ),
+                omega arith,
+                omega (arith, g.0),
+                along.are 0 (omega arith),
+                omega (arith, along.inside 0 (omega arith)),
+                λ o.
+                    let z : d + 1 - 1 ≡ d = omega arith in
+                    let last = hi_deep upto (set at d v) d (λ x. omega arith) (omega (arith, length-set at d v, g.0, g.1, g.2)) in
+                    rw z (omega arith),
               )
 
           pub goes_down : (d + 1 ≡ steps → ⊥) → (u : ℕ) → Starts h p (set at d v) (d + 1) u → Next (set (set at d v) (d + 1) u) (set row d e) (d + 1)

@@ -1,5 +1,5 @@
 -- What a step asks of a position, in the order in which it is asked.
-use Rattle.std.proofs.Common.{◌≡◌, ℕ, suc, ◌+◌, ◌-◌, ◌<◌, true, false, not, ◌&&◌, eqb, leb, List, [], ◌∷◌, length, get_or, sym, refl, ap, ◌∙◌, add-one, arith}
+use Rattle.std.proofs.Common.{◌≡◌, ℕ, suc, ◌+◌, ◌-◌, ◌<◌, true, false, not, ◌&&◌, eqb, leb, List, [], ◌∷◌, length, get_or, take, drop, sym, refl, ap, ◌∙◌, add-one, arith, length-take, length-drop, get_or-take, get_or-drop}
 use Rattle.std.proofs.lemmas.Bool.{ne_eqb}
 use Rattle.timeline.specs.declared.events.Event.{Event}
 use Rattle.timeline.specs.Lists.{pick, none_of}
@@ -19,6 +19,13 @@ none_length (x ∷ xs) = sym (ne_eqb (suc (length xs)) 0 (λ e. omega arith))
 -- the position before the next one
 abbrev pub last_place : List ℕ → ℕ
 last_place places = get_or places (length places - 1) 0
+
+-- of the steps before one
+pub place_before : (at : List ℕ) (m : ℕ) → 0 < m → m < length at → last_place (take m (drop 1 at)) ≡ get_or at m 0
+place_before at m k l =
+    let n : length (take m (drop 1 at)) ≡ m = omega (arith, length-take m (drop 1 at), length-drop 1 at) in
+    let q : 1 + (m - 1) ≡ m = omega arith in
+    ap (λ j. get_or (take m (drop 1 at)) (j - 1) 0) n ∙ get_or-take m (drop 1 at) (m - 1) 0 (omega arith) ∙ get_or-drop 1 at (m - 1) 0 ∙ ap (λ j. get_or at j 0) q
 
 module _ (h : List Event) (w : ℕ) (s : Step) (places : List ℕ) (earlier : List Event) (p : ℕ) (e : Event) (st : Standing h places earlier) (is : e ≡ nth h p) where
   fits_is : fits h w s places p

@@ -54,7 +54,7 @@ take_each h [] es (suc m) l k f = absurd (omega arith)
 take_each h (x ∷ xs) [] (suc m) l k f = absurd (omega arith)
 take_each h (x ∷ xs) (e ∷ es) (suc m) l k f = ap₂ (λ y ys. y ∷ ys) (f 0 (omega arith)) (take_each h xs es m (omega arith) (omega arith) (λ j q. f (suc j) (omega arith)))
 
-along_stands : (h : List Event) (at : List ℕ) (row : List Event) (d m : ℕ) → length at ≡ 6 → length row ≡ 6 → Along h at row d → m + 1 ≤ d → d ≤ 6
+pub along_stands : (h : List Event) (at : List ℕ) (row : List Event) (d m : ℕ) → length at ≡ 6 → length row ≡ 6 → Along h at row d → m + 1 ≤ d → d ≤ 6
     → Standing h (take m (drop 1 at)) (take m (drop 1 row))
 along_stands h at row d m la lr a l k =
     record {
@@ -67,14 +67,10 @@ along_stands h at row d m la lr a l k =
           (λ j q. get_or-drop 1 row j nothing ∙ a.are (1 + j) (omega arith) ∙ ap (nth h) (sym (get_or-drop 1 at j 0)));
     }
 
--- what a step's try asks for, of the position at i
-pub along_ready : (h : List Event) (at : List ℕ) (row : List Event) (d i m : ℕ) → length at ≡ 6 → length row ≡ 6 → Along h at row d → i < d → m + 1 ≤ d → d ≤ 6
-    → ((get_or at i 0 < length h) × (get_or row i nothing ≡ nth h (get_or at i 0)))
-    × (Standing h (take m (drop 1 at)) (take m (drop 1 row)) × (length (take m (drop 1 row)) ≡ length (take m (drop 1 at))))
-along_ready h at row d i m la lr a q l k = (
-  (omega (arith, a.inside i q), a.are i q),
-  (along_stands h at row d m la lr a l k, omega (arith, length-take m (drop 1 at), length-take m (drop 1 row), length-drop 1 at, length-drop 1 row)),
-)
+-- those of the steps before one, as the code takes them
+pub earlier_stand : (h : List Event) (at : List ℕ) (row : List Event) (d m : ℕ) → length at ≡ 6 → length row ≡ 6 → Along h at row (d + 1) → m ≤ d → d < 6
+    → Standing h (take m (drop 1 at)) (take (m + 1 - 1) (drop 1 row))
+earlier_stand h at row d m la lr a l k = let q : m + 1 - 1 ≡ m = omega arith in rw q (along_stands h at row (d + 1) m la lr a (omega arith) (omega arith))
 
 -- WHICH POSITIONS: by the depth, for a kept pattern
 module _ (h : List Event) (c at : List ℕ) where
@@ -124,15 +120,14 @@ module _ (h : List Event) (c at : List ℕ) where
 
   -- it is met, and it is the last level: all is up to the last event
   pub ok_end : (d : ℕ) → (d ≡ 0 → ⊥) → d < kept_count c → d < length at → true ≡ fits h w (kept_step c (d - 1)) (take (d - 1) (drop 1 at)) (get_or at d 0) → d + 1 ≡ kept_count c
-      → fits h w (kept_step c d) (take (d + 1 - 1) (drop 1 at)) (get_or at 0 0) ≡ ok_at d
+      → fits h w (kept_step c d) (take d (drop 1 at)) (get_or at 0 0) ≡ ok_at d
   ok_end zero z q l e n = absurd (z refl)
   ok_end (suc d) z q l e n =
       let p : suc d - 1 ≡ d = omega arith in
       let f = rw p at e in
       let t : eqb (d + 2) (kept_count c) ≡ true = eq-eqb _ _ (omega arith) in
       let k : kept_count c - 1 ≡ suc d = omega arith in
-      let m : suc d + 1 - 1 ≡ suc d = omega arith in
-      rw m (sym (ok_level d q l ∙ rw (← f, t, k) refl))
+      sym (ok_level d q l ∙ rw (← f, t, k) refl)
 
   -- it is the last level, and the last event doesn't fit behind it
   pub ok_last_not : (d : ℕ) → (d ≡ 0 → ⊥) → d < kept_count c → d < length at → d + 1 ≡ kept_count c → false ≡ fits h w (kept_step c d) (take d (drop 1 at)) (get_or at 0 0) → false ≡ ok_at d

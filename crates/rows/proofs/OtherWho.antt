@@ -14,7 +14,7 @@ use Rattle.rows.specs.Finding.{fits, row_ok}
 use Rattle.rows.proofs.Positions.{nth_each}
 use Rattle.rows.proofs.Chosen.{chosen_set}
 use Rattle.rows.proofs.Fitting.{fits_not}
-use Rattle.rows.proofs.LevelOk.{along_ready, ok_not, ok_last_not}
+use Rattle.rows.proofs.LevelOk.{along_stands, ok_not, ok_last_not}
 
 other_way : (a b : ℕ) → eqb a b ≡ false → eqb b a ≡ false
 other_way a b e = ne_eqb b a (λ q. eqb-false a b e (sym q))
@@ -63,7 +63,7 @@ module _ (h : List Event) (c at : List ℕ) (row : List Event) (d : ℕ) (la : l
   -- its own step asks for another
   pub own_not : fits_step (take (d - 1) (drop 1 row)) (nth h i) (kept_step c (d - 1)).kind (kept_step c (d - 1)).tests ≡ false → unchosen
   own_not t =
-      let st = (along_ready h at₁ row d 0 (d - 1) (length-set at d i ∙ la) lr along₁ (omega arith) (omega arith) (omega (arith, steps_six c))).1.0 in
+      let st = along_stands h at₁ row d (d - 1) (length-set at d i ∙ la) lr along₁ (omega arith) (omega (arith, steps_six c)) in
       let f = fits_not h (kept_pattern c).within (kept_step c (d - 1)) (take (d - 1) (drop 1 at₁)) (take (d - 1) (drop 1 row)) i (nth h i) st refl t in
       back_to (ok_not h c at₁ d z few long (rw here f))
 

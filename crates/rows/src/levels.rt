@@ -1,32 +1,37 @@
 // What a level of the search asks for: which positions may be chosen, given those chosen before.
-ghost use Rattle.std.specs.Prelude.{◌≡◌, ℕ, ◌+◌, ◌-◌, ◌<◌, ◌≤◌, true, false, length, IfSome, ◌==◌, nat_le, slice_index, slice_index_or};
+ghost use Rattle.std.specs.Prelude.{◌≡◌, ℕ, ◌+◌, ◌-◌, ◌<◌, ◌≤◌, true, false, length, take, drop, IfSome, ◌==◌, nat_le, slice_index, slice_index_or};
 ghost use Rattle.timeline.specs.Lists.{any, run};
 ghost use Rattle.timeline.specs.Order.{nothing, nth};
 ghost use Rattle.patterns.specs.Kept.{kept_step, kept_count, kept_pattern};
-ghost use Rattle.rows.specs.Held.{Standing, Along, level_step};
+ghost use Rattle.rows.specs.Held.{Along, level_step};
 ghost use Rattle.rows.specs.Search.{Barren, chosen};
 ghost use Rattle.rows.specs.Finding.{forbidden, fits, row_ok, row_lo, row_hi, space};
 
 use crate::held::{Held, is_within};
+use crate::search::Cursor;
 use patterns::Kept;
+use std::array;
 use timeline::Event;
 
 // How many levels there can be: as many as a pattern has steps.
 pub const LEVELS: usize = 6;
 
-// Held events, and the pattern whose rows are looked for.
+// What is chosen so far: how many positions, six of them as a cursor has them, and the events that stand there.
 #[derive(Drop)]
-pub struct Search<'a> {
-    pub held: Held<'a>,
-    pub kept: Kept<'a>,
+pub struct Choice {
+    pub depth: usize,
+    pub at: [usize; LEVELS],
+    pub row: [Event; LEVELS],
 }
 
-// Where the positions of a depth end: before the last event, and before a bound for the last event itself.
-pub fn level_end(at: &[usize; LEVELS], depth: usize, upto: usize) -> usize
-    requires { depth ≤ 6 }
-    ensures { result ≡ row_hi upto (chosen at.now depth) }
-{
-    if depth == 0 { upto } else { at[0] }
+impl Choice {
+    // Where the positions to choose from end: before the last event, and before a bound for the last event itself.
+    pub fn end(&self, upto: usize) -> usize
+        requires { self.now.depth ≤ 6 }
+        ensures { result ≡ row_hi upto (chosen self.now.at self.now.depth) }
+    {
+        if self.depth == 0 { upto } else { self.at[0] }
+    }
 }
 
 // Which step a depth chooses for: first the last step, then from the first one on.
@@ -35,6 +40,13 @@ fn level_step(steps: usize, depth: usize) -> usize
     ensures { result ≡ level_step steps depth }
 {
     if depth == 0 { steps - 1 } else { depth - 1 }
+}
+
+// Held events, and the pattern whose rows are looked for.
+#[derive(Drop)]
+pub struct Search<'a> {
+    pub held: Held<'a>,
+    pub kept: Kept<'a>,
 }
 
 impl Search<'_> {
@@ -53,63 +65,64 @@ impl Search<'_> {
         })
     }
 
-    // Whether the event at a position fits a step behind the events at the places before: by itself, within the window, and with nothing
+    // Whether the event chosen at a depth fits a step behind the events of the steps before: by itself, within the window, and with nothing
     // forbidden between.
-    fn fits_at(&self, step: usize, places: &[usize], earlier: &[Event], p: usize, e: Event) -> bool
-        requires p_bound { (p < length self.now.held) × (e ≡ nth self.now.held p) }
-        requires standing { (Standing self.now.held places.now earlier.now) × (length earlier.now ≡ length places.now) }
-        ensures { result ≡ fits self.now.held (kept_pattern self.now.kept.words.now).within (kept_step self.now.kept.words.now step) places.now p }
+    fn fits_at(&self, choice: &Choice, step: usize, depth: usize) -> bool
+        requires here { depth ≤ choice.now.depth }
+        requires before { step ≤ choice.now.depth }
+        requires few { choice.now.depth < kept_count self.now.kept.words.now }
+        requires along { Along self.now.held choice.now.at choice.now.row (choice.now.depth + 1) }
+        ensures { result ≡ fits self.now.held (kept_pattern self.now.kept.words.now).within (kept_step self.now.kept.words.now step) (take step (drop 1 choice.now.at)) (slice_index choice.now.at depth) }
     {
+        let earlier = &choice.row[1..step + 1];
+        let e = choice.row[depth];
         if !self.kept.fits(step, earlier, e) {
             return false;
         }
-        if places.is_empty() {
+        if step == 0 {
             return true;
         }
         if !is_within(e.time, earlier[0].time, self.kept.within()) {
             return false;
         }
-        !self.is_broken(step, earlier, places[places.len() - 1], p)
+        !self.is_broken(step, earlier, choice.at[step], choice.at[depth])
     }
 
-    // Whether the position at a depth may stand there, given those before it; their events stand in the row. With the last but one event the
-    // last can be tried whole.
-    pub fn may_stand(&self, at: &[usize; LEVELS], row: &[Event; LEVELS], depth: usize) -> bool
-        requires { (depth < kept_count self.now.kept.words.now) × (Along self.now.held at.now row.now (depth + 1)) }
-        ensures { result ≡ row_ok self.now.held (kept_pattern self.now.kept.words.now).within (kept_pattern self.now.kept.words.now).steps (chosen at.now depth) (slice_index at.now depth) }
+    // Whether the position chosen last may stand there, given those before it. With the last but one event the last can be tried whole.
+    pub fn may_stand(&self, choice: &Choice) -> bool
+        requires few { choice.now.depth < kept_count self.now.kept.words.now }
+        requires along { Along self.now.held choice.now.at choice.now.row (choice.now.depth + 1) }
+        ensures { result ≡ row_ok self.now.held (kept_pattern self.now.kept.words.now).within (kept_pattern self.now.kept.words.now).steps (chosen choice.now.at choice.now.depth) (slice_index choice.now.at choice.now.depth) }
     {
         let steps = self.kept.steps();
+        let depth = choice.depth;
         if depth == 0 {
             if steps == 1 {
-                return self.fits_at(0, &at[0..0], &row[0..0], at[0], row[0]);
+                return self.fits_at(choice, 0, 0);
             }
-            return row[0].kind == self.kept.kind_of(steps - 1);
+            return choice.row[0].kind == self.kept.kind_of(steps - 1);
         }
-        if !self.fits_at(
-            depth - 1,
-            &at[1..depth],
-            &row[1..depth],
-            at[depth],
-            row[depth],
-        ) {
+        if !self.fits_at(choice, depth - 1, depth) {
             return false;
         }
         if depth + 1 != steps {
             return true;
         }
-        self.fits_at(depth, &at[1..depth + 1], &row[1..depth + 1], at[0], row[0])
+        self.fits_at(choice, depth, 0)
     }
 
-    // The who that the event of a depth has to have, where a test says which: one of its own step, or with the last but one event one of the
-    // last step.
-    fn who_asked(&self, at: &[usize; LEVELS], row: &[Event; LEVELS], depth: usize) -> Option<u64>
-        requires { (depth < kept_count self.now.kept.words.now) × (Along self.now.held at.now row.now depth) }
-        ensures { IfSome result (λ w. (i : ℕ) → ((nth self.now.held i).who == w) ≡ false → i < length self.now.held → row_ok self.now.held (kept_pattern self.now.kept.words.now).within (kept_pattern self.now.kept.words.now).steps (chosen at.now depth) i ≡ false) }
+    // The who that the event to choose next has to have, where a test says which: one of its own step, or with the last but one event one of
+    // the last step.
+    fn who_asked(&self, choice: &Choice) -> Option<u64>
+        requires few { choice.now.depth < kept_count self.now.kept.words.now }
+        requires along { Along self.now.held choice.now.at choice.now.row choice.now.depth }
+        ensures { IfSome result (λ w. (i : ℕ) → ((nth self.now.held i).who == w) ≡ false → i < length self.now.held → row_ok self.now.held (kept_pattern self.now.kept.words.now).within (kept_pattern self.now.kept.words.now).steps (chosen choice.now.at choice.now.depth) i ≡ false) }
     {
+        let depth = choice.depth;
         if depth == 0 {
             return None;
         }
-        if let Some(who) = self.kept.who_asked(depth - 1, &row[1..depth]) {
+        if let Some(who) = self.kept.who_asked(depth - 1, &choice.row[1..depth]) {
             return Some(who);
         }
         if depth + 1 != self.kept.steps() {
@@ -118,84 +131,103 @@ impl Search<'_> {
         if !self.kept.asks_same_who(depth, depth - 1) {
             return None;
         }
-        Some(row[0].who)
+        Some(choice.row[0].who)
     }
 
-    // The first position of a depth, from where it stands on and before its end, whose event is of the step's kind.
-    pub fn next_candidate(&self, at: &[usize; LEVELS], depth: usize, end: usize) -> usize
-        requires { (depth < kept_count self.now.kept.words.now) × ((slice_index at.now depth ≤ end) × (end ≤ length self.now.held)) }
-        ensures bounds { (slice_index at.now depth ≤ result) × (result ≤ end) }
-        ensures passed { (i : ℕ) → i < result → slice_index at.now depth ≤ i → row_ok self.now.held (kept_pattern self.now.kept.words.now).within (kept_pattern self.now.kept.words.now).steps (chosen at.now depth) i ≡ false }
+    // The first position to choose, from the one to try next on and before an end, whose event is of the step's kind.
+    fn next_candidate(&self, choice: &Choice, end: usize) -> usize
+        requires few { choice.now.depth < kept_count self.now.kept.words.now }
+        requires order { slice_index choice.now.at choice.now.depth ≤ end }
+        requires inside { end ≤ length self.now.held }
+        ensures bounds { (slice_index choice.now.at choice.now.depth ≤ result) × (result ≤ end) }
+        ensures passed { (i : ℕ) → i < result → slice_index choice.now.at choice.now.depth ≤ i → row_ok self.now.held (kept_pattern self.now.kept.words.now).within (kept_pattern self.now.kept.words.now).steps (chosen choice.now.at choice.now.depth) i ≡ false }
     {
-        let kind = self.kept.kind_of(level_step(self.kept.steps(), depth));
-        self.held.next_of_kind(kind, at[depth], end)
+        let kind = self
+            .kept
+            .kind_of(level_step(self.kept.steps(), choice.depth));
+        self.held.next_of_kind(kind, choice.at[choice.depth], end)
     }
 
-    // The first position of a depth, from where it stands on and before its end, whose event is of the step's kind and of the who that is
+    // The first position to choose, from the one to try next on and before an end, whose event is of the step's kind and of the who that is
     // asked for.
-    pub fn next_asked(
-        &self,
-        at: &[usize; LEVELS],
-        row: &[Event; LEVELS],
-        depth: usize,
-        end: usize,
-    ) -> usize
-        requires depth_bound { (depth < kept_count self.now.kept.words.now) × ((slice_index at.now depth ≤ end) × (end ≤ length self.now.held)) }
-        requires along { Along self.now.held at.now row.now depth }
-        ensures bounds { (slice_index at.now depth ≤ result) × (result ≤ end) }
-        ensures passed { (i : ℕ) → i < result → slice_index at.now depth ≤ i → row_ok self.now.held (kept_pattern self.now.kept.words.now).within (kept_pattern self.now.kept.words.now).steps (chosen at.now depth) i ≡ false }
+    pub fn next_asked(&self, choice: &Choice, end: usize) -> usize
+        requires few { choice.now.depth < kept_count self.now.kept.words.now }
+        requires order { slice_index choice.now.at choice.now.depth ≤ end }
+        requires inside { end ≤ length self.now.held }
+        requires along { Along self.now.held choice.now.at choice.now.row choice.now.depth }
+        ensures bounds { (slice_index choice.now.at choice.now.depth ≤ result) × (result ≤ end) }
+        ensures passed { (i : ℕ) → i < result → slice_index choice.now.at choice.now.depth ≤ i → row_ok self.now.held (kept_pattern self.now.kept.words.now).within (kept_pattern self.now.kept.words.now).steps (chosen choice.now.at choice.now.depth) i ≡ false }
     {
-        let Some(who) = self.who_asked(at, row, depth) else {
-            return self.next_candidate(at, depth, end);
+        let Some(who) = self.who_asked(choice) else {
+            return self.next_candidate(choice, end);
         };
-        let kind = self.kept.kind_of(level_step(self.kept.steps(), depth));
-        self.held.next_of_who(who, kind, at[depth], end)
+        let kind = self
+            .kept
+            .kind_of(level_step(self.kept.steps(), choice.depth));
+        self.held
+            .next_of_who(who, kind, choice.at[choice.depth], end)
     }
 
     // The first position of a depth below the last event's: behind the one before; the first event's where the last is within the window.
-    fn first_place(&self, at: &[usize; LEVELS], last: Event, depth: usize) -> usize
-        requires le_depth { (1 ≤ depth) × ((depth < kept_count self.now.kept.words.now) × (last ≡ nth self.now.held (slice_index at.now 0))) }
-        requires at_bound { (slice_index at.now 0 ≤ length self.now.held) × ((1 < depth → slice_index at.now (depth - 1) < slice_index at.now 0)) }
-        ensures bounds { (row_lo (chosen at.now depth) ≤ result) × (result ≤ slice_index at.now 0) }
-        ensures passed { (upto i : ℕ) → row_lo (chosen at.now depth) ≤ i → i < result → Barren (space self.now.held (kept_pattern self.now.kept.words.now) upto) (length (kept_pattern self.now.kept.words.now).steps - 1 - depth) (chosen at.now depth) i }
-        ensures reach { depth ≡ 1 → result < slice_index at.now 0 → nat_le last.time ((nth self.now.held result).time + (kept_pattern self.now.kept.words.now).within) ≡ true }
-        ensures behind { 1 < depth → result ≡ slice_index at.now (depth - 1) + 1 }
+    fn first_place(&self, choice: &Choice) -> usize
+        requires below { 1 ≤ choice.now.depth }
+        requires few { choice.now.depth < kept_count self.now.kept.words.now }
+        requires last { slice_index_or choice.now.row 0 nothing ≡ nth self.now.held (slice_index choice.now.at 0) }
+        requires inside { slice_index choice.now.at 0 ≤ length self.now.held }
+        requires order { 1 < choice.now.depth → slice_index choice.now.at (choice.now.depth - 1) < slice_index choice.now.at 0 }
+        ensures bounds { (row_lo (chosen choice.now.at choice.now.depth) ≤ result) × (result ≤ slice_index choice.now.at 0) }
+        ensures passed { (upto i : ℕ) → row_lo (chosen choice.now.at choice.now.depth) ≤ i → i < result → Barren (space self.now.held (kept_pattern self.now.kept.words.now) upto) (length (kept_pattern self.now.kept.words.now).steps - 1 - choice.now.depth) (chosen choice.now.at choice.now.depth) i }
+        ensures reach { choice.now.depth ≡ 1 → result < slice_index choice.now.at 0 → nat_le (slice_index_or choice.now.row 0 nothing).time ((nth self.now.held result).time + (kept_pattern self.now.kept.words.now).within) ≡ true }
+        ensures behind { 1 < choice.now.depth → result ≡ slice_index choice.now.at (choice.now.depth - 1) + 1 }
     {
-        if depth == 1 {
-            let within = self.kept.within();
-            return self.held.first_in_reach(last.time, within, at[0]);
+        if choice.depth == 1 {
+            let last = choice.row[0];
+            return self
+                .held
+                .first_in_reach(last.time, self.kept.within(), choice.at[0]);
         }
-        at[depth - 1] + 1
+        choice.at[choice.depth - 1] + 1
     }
 
     // Where the positions of a depth below the last event's begin. Those of the last but one event begin where the last one stands that a
     // never without tests forbids before the last event: it would be between.
-    pub fn level_start(&self, at: &[usize; LEVELS], last: Event, depth: usize) -> usize
-        requires le_depth { (1 ≤ depth) × ((depth < kept_count self.now.kept.words.now) × (last ≡ nth self.now.held (slice_index at.now 0))) }
-        requires at_bound { (slice_index at.now 0 ≤ length self.now.held) × ((1 < depth → slice_index at.now (depth - 1) < slice_index at.now 0)) }
-        ensures bounds { (row_lo (chosen at.now depth) ≤ result) × (result ≤ slice_index at.now 0) }
-        ensures passed { (upto i : ℕ) → row_lo (chosen at.now depth) ≤ i → i < result → Barren (space self.now.held (kept_pattern self.now.kept.words.now) upto) (length (kept_pattern self.now.kept.words.now).steps - 1 - depth) (chosen at.now depth) i }
+    pub fn level_start(&self, choice: &Choice) -> usize
+        requires below { 1 ≤ choice.now.depth }
+        requires few { choice.now.depth < kept_count self.now.kept.words.now }
+        requires last { slice_index_or choice.now.row 0 nothing ≡ nth self.now.held (slice_index choice.now.at 0) }
+        requires inside { slice_index choice.now.at 0 ≤ length self.now.held }
+        requires order { 1 < choice.now.depth → slice_index choice.now.at (choice.now.depth - 1) < slice_index choice.now.at 0 }
+        ensures bounds { (row_lo (chosen choice.now.at choice.now.depth) ≤ result) × (result ≤ slice_index choice.now.at 0) }
+        ensures passed { (upto i : ℕ) → row_lo (chosen choice.now.at choice.now.depth) ≤ i → i < result → Barren (space self.now.held (kept_pattern self.now.kept.words.now) upto) (length (kept_pattern self.now.kept.words.now).steps - 1 - choice.now.depth) (chosen choice.now.at choice.now.depth) i }
     {
-        let first = self.first_place(at, last, depth);
+        let depth = choice.depth;
+        let first = self.first_place(choice);
         if depth + 1 != self.kept.steps() {
             return first;
         }
         match self.kept.free_never(depth) {
-            Some(kind) => self.held.last_of_kind(kind, first, at[0]),
+            Some(kind) => self.held.last_of_kind(kind, first, choice.at[0]),
             None => first,
         }
     }
 
-    // The events of the first so many positions; zeros behind.
-    pub fn events_at(&self, at: &[usize; LEVELS], many: usize) -> [Event; LEVELS]
-        requires { (many ≤ 6) × (((j : ℕ) → j < many → slice_index at.now j < length self.now.held)) }
-        ensures events { (j : ℕ) → j < many → slice_index_or result j nothing ≡ nth self.now.held (slice_index at.now j) }
-        ensures behind { (j : ℕ) → many ≤ j → slice_index_or result j nothing ≡ nothing }
+    // What is chosen at a cursor: its positions, and their events; nothing behind them.
+    pub fn choice_at(&self, cursor: Cursor) -> Choice
+        requires few { cursor.depth ≤ 6 }
+        requires inside { (j : ℕ) → j < cursor.depth → slice_index cursor.at j < length self.now.held }
+        ensures depth { result.depth ≡ cursor.depth }
+        ensures at { result.at ≡ cursor.at }
+        ensures events { (j : ℕ) → j < cursor.depth → slice_index_or result.row j nothing ≡ nth self.now.held (slice_index cursor.at j) }
+        ensures behind { (j : ℕ) → cursor.depth ≤ j → slice_index_or result.row j nothing ≡ nothing }
     {
-        let mut row = [Event::NOTHING; LEVELS];
-        for j in 0..many {
-            row[j] = self.held.get(at[j]);
-        }
-        row
+        let Cursor { depth, at } = cursor;
+        let row = array::from_fn(|j| {
+            if j < depth {
+                self.held.get(at[j])
+            } else {
+                Event::NOTHING
+            }
+        });
+        Choice { depth, at, row }
     }
 }

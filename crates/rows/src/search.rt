@@ -7,7 +7,7 @@ ghost use Rattle.rows.specs.Held.{number_at, six_of};
 ghost use Rattle.rows.specs.Finding.{to_come, behind, found_first, placed, next_found};
 
 use crate::held::Held;
-use crate::levels::{LEVELS, Search, level_end};
+use crate::levels::{Choice, LEVELS, Search};
 use patterns::Kept;
 use std::array;
 use timeline::Event;
@@ -29,7 +29,8 @@ pub struct Found {
 
 // The number told at a place, of a row whose last event stands first; 0 behind the row.
 fn number_at(row: &[Event; LEVELS], steps: usize, place: usize) -> u64
-    requires { (steps ≤ 6) × (place < 6) }
+    requires few { steps ≤ 6 }
+    requires within { place < 6 }
     ensures { result ≡ number_at row.now steps place }
 {
     let i = place + 1;
@@ -39,18 +40,21 @@ fn number_at(row: &[Event; LEVELS], steps: usize, place: usize) -> u64
     if i == steps { row[0].heard } else { 0 }
 }
 
-// What is told of a row.
-fn told(at: [usize; LEVELS], row: &[Event; LEVELS], steps: usize) -> Found
-    requires { (1 ≤ steps) × ((steps ≤ 6) × (slice_index at (steps - 1) < 18446744073709551615)) }
-    ensures { result ≡ record { numbers = six_of row.now steps; next = behind steps at } }
+// What is told of a whole row.
+fn told(choice: &Choice, steps: usize) -> Found
+    requires some { 1 ≤ steps }
+    requires few { steps ≤ 6 }
+    requires room { slice_index choice.now.at (steps - 1) < 18446744073709551615 }
+    ensures { result ≡ record { numbers = six_of choice.now.row steps; next = behind steps choice.now.at } }
 {
-    let mut next = at;
-    next[steps - 1] += 1;
+    let row = &choice.row;
+    let mut at = choice.at;
+    at[steps - 1] += 1;
     Found {
         numbers: array::from_fn(|place| number_at(row, steps, place)),
         next: Cursor {
             depth: steps - 1,
-            at: next,
+            at,
         },
     }
 }
@@ -83,32 +87,31 @@ impl Search<'_> {
         ensures { result ≡ found_first self.now.held (kept_pattern self.now.kept.words.now) cursor (to_come self.now.held (kept_pattern self.now.kept.words.now) upto cursor) }
     {
         let steps = self.kept.steps();
-        let mut at = cursor.at;
-        let mut depth = cursor.depth;
-        let mut row = self.events_at(&at, depth);
+        let mut choice = self.choice_at(cursor);
         'moves: loop {
-            let end = level_end(&at, depth, upto);
-            if at[depth] >= end {
+            let depth = choice.depth;
+            let end = choice.end(upto);
+            if choice.at[depth] >= end {
                 if depth == 0 {
                     return None;
                 }
-                depth -= 1;
-                at[depth] += 1;
+                choice.depth = depth - 1;
+                choice.at[depth - 1] += 1;
                 continue;
             }
-            let p = self.next_asked(&at, &row, depth, end);
-            at[depth] = p;
+            let p = self.next_asked(&choice, end);
+            choice.at[depth] = p;
             if p >= end {
                 continue;
             }
-            row[depth] = self.held.get(p);
-            if !self.may_stand(&at, &row, depth) {
-                at[depth] += 1;
+            choice.row[depth] = self.held.get(p);
+            if !self.may_stand(&choice) {
+                choice.at[depth] += 1;
             } else if depth + 1 == steps {
-                return Some(told(at, &row, steps));
+                return Some(told(&choice, steps));
             } else {
-                depth += 1;
-                at[depth] = self.level_start(&at, row[0], depth);
+                choice.depth = depth + 1;
+                choice.at[depth + 1] = self.level_start(&choice);
             }
         }
     }

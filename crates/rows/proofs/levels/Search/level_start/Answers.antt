@@ -7,7 +7,7 @@ pub returns-in-Some : goal.returns-in-Some
 returns-in-Some c =
     let h = c.args.self.now.held in
     let r = c.last_of_kind.result in
-    let s = starts_unbroken h c.args.self.now.kept.words.now c.args.at.now c.args.depth c.told-at c.requires.le_depth.1.0 (λ z. omega (arith, c.requires.le_depth.0)) (c.if-depth-steps.false ∙ c.steps.ensures)
+    let s = starts_unbroken h c.args.self.now.kept.words.now c.args.choice.now.at c.args.choice.now.depth c.told-choice c.requires.few (λ z. omega (arith, c.requires.below)) (c.if-depth-steps.false ∙ c.steps.ensures)
     c.first_place-first.result r (c.first_place-first.ensures.bounds, c.first_place-first.ensures.passed) c.last_of_kind.ensures.bounds.0 c.last_of_kind.ensures.bounds.1
     (λ q.
     let g = c.last_of_kind.ensures.found q in

@@ -1,52 +1,34 @@
 use Rattle.std.proofs.Common.{◌+◌, ◌-◌, eqb, sym, ap, ◌∙◌, ap₂, arith}
 use Rattle.patterns.specs.Kept.{kept_step}
 use Rattle.patterns.proofs.Steps.{steps_six}
-use Rattle.rows.proofs.LevelOk.{along_ready, ok_one, ok_last, ok_not, ok_mid, ok_end}
+use Rattle.rows.proofs.LevelOk.{ok_one, ok_last, ok_not, ok_mid, ok_end}
 use Rattle.rows.proofs.levels.Search.may_stand.Goals as goal
-
-pub fits_at-requires : goal.fits_at-requires
-fits_at-requires c =
-    let all = along_ready c.args.self.now.held c.args.at.now c.args.row.now (c.args.depth + 1) 0 0 c.told-at c.told-row c.requires.1 (omega arith) (omega arith)
-    (omega (arith, steps_six c.args.self.now.kept.words.now, c.requires.0)) in
-    record { p_bound = all.0; standing = all.1 }
 
 pub returns-then-steps-eq1 : goal.returns-then-steps-eq1
 returns-then-steps-eq1 c =
     c.fits_at.ensures
-    ∙ sym (ok_one c.args.self.now.held c.args.self.now.kept.words.now c.args.at.now c.args.depth c.if-depth-eq0.true
+    ∙ sym (ok_one c.args.self.now.held c.args.self.now.kept.words.now c.args.choice.now.at c.args.choice.now.depth c.if-depth-eq0.true
     (sym c.steps-steps.ensures ∙ c.if-steps-eq1.true))
 
 pub returns-then-depth-eq0 : goal.returns-then-depth-eq0
 returns-then-depth-eq0 c =
     let n = c.steps-steps.ensures in
-    ap₂ eqb (ap (λ e. e.kind) (c.requires.1.are 0 (omega arith))) (c.kind_of.ensures ∙ ap (λ k. (kept_step c.args.self.now.kept.words.now (k - 1)).kind) n)
-    ∙ sym (ok_last c.args.self.now.held c.args.self.now.kept.words.now c.args.at.now c.args.depth c.if-depth-eq0.true
-    (omega (arith, c.requires.0)) (λ e. c.if-steps-eq1.false (n ∙ e)))
-
-pub fits_at-requires-2 : goal.fits_at-requires-2
-fits_at-requires-2 c =
-    let all = along_ready c.args.self.now.held c.args.at.now c.args.row.now (c.args.depth + 1) c.args.depth (c.args.depth - 1) c.told-at c.told-row c.requires.1
-    (omega arith) (omega arith) (omega (arith, steps_six c.args.self.now.kept.words.now, c.requires.0)) in
-    record { p_bound = all.0; standing = all.1 }
+    ap₂ eqb (ap (λ e. e.kind) (c.requires.along.are 0 (omega arith))) (c.kind_of.ensures ∙ ap (λ k. (kept_step c.args.self.now.kept.words.now (k - 1)).kind) n)
+    ∙ sym (ok_last c.args.self.now.held c.args.self.now.kept.words.now c.args.choice.now.at c.args.choice.now.depth c.if-depth-eq0.true
+    (omega (arith, c.requires.few)) (λ e. c.if-steps-eq1.false (n ∙ e)))
 
 pub returns-then-not-fits_at : goal.returns-then-not-fits_at
 returns-then-not-fits_at c =
-    ok_not c.args.self.now.held c.args.self.now.kept.words.now c.args.at.now c.args.depth c.if-depth-eq0.false c.requires.0
-    (omega (arith, steps_six c.args.self.now.kept.words.now, c.requires.0, c.told-at)) c.if-not-fits_at.ensures
+    ok_not c.args.self.now.held c.args.self.now.kept.words.now c.args.choice.now.at c.args.choice.now.depth c.if-depth-eq0.false c.requires.few
+    (omega (arith, steps_six c.args.self.now.kept.words.now, c.requires.few, c.told-choice)) c.if-not-fits_at.ensures
 
 pub returns-then-depth-steps : goal.returns-then-depth-steps
 returns-then-depth-steps c =
-    ok_mid c.args.self.now.held c.args.self.now.kept.words.now c.args.at.now c.args.depth c.if-depth-eq0.false c.requires.0
-    (omega (arith, steps_six c.args.self.now.kept.words.now, c.requires.0, c.told-at)) c.if-not-fits_at.ensures (λ e. c.if-depth-steps.true (e ∙ sym c.steps-steps.ensures))
-
-pub fits_at-requires-3 : goal.fits_at-requires-3
-fits_at-requires-3 c =
-    let all = along_ready c.args.self.now.held c.args.at.now c.args.row.now (c.args.depth + 1) 0 (c.args.depth + 1 - 1) c.told-at c.told-row c.requires.1
-    (omega arith) (omega arith) (omega (arith, steps_six c.args.self.now.kept.words.now, c.requires.0)) in
-    record { p_bound = all.0; standing = all.1 }
+    ok_mid c.args.self.now.held c.args.self.now.kept.words.now c.args.choice.now.at c.args.choice.now.depth c.if-depth-eq0.false c.requires.few
+    (omega (arith, steps_six c.args.self.now.kept.words.now, c.requires.few, c.told-choice)) c.if-not-fits_at.ensures (λ e. c.if-depth-steps.true (e ∙ sym c.steps-steps.ensures))
 
 pub returns : goal.returns
 returns c =
     c.fits_at-3.ensures
-    ∙ ok_end c.args.self.now.held c.args.self.now.kept.words.now c.args.at.now c.args.depth c.if-depth-eq0.false c.requires.0
-    (omega (arith, steps_six c.args.self.now.kept.words.now, c.requires.0, c.told-at)) c.if-not-fits_at.ensures (c.if-depth-steps.false ∙ c.steps-steps.ensures)
+    ∙ ok_end c.args.self.now.held c.args.self.now.kept.words.now c.args.choice.now.at c.args.choice.now.depth c.if-depth-eq0.false c.requires.few
+    (omega (arith, steps_six c.args.self.now.kept.words.now, c.requires.few, c.told-choice)) c.if-not-fits_at.ensures (c.if-depth-steps.false ∙ c.steps-steps.ensures)

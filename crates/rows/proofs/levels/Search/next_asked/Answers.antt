@@ -15,8 +15,8 @@ returns c =
       passed = λ i l k.
           either_who (nth h i).who c.in-Some.who
           (λ t.
-          kept_kind_not h words c.args.at.now c.args.depth i c.kind_of-kind.result c.requires.depth_bound.0
-          (c.kind_of-kind.ensures ∙ ap (λ s. (kept_step words s).kind) (c.level_step.ensures ∙ ap (λ n. level_step n c.args.depth) c.steps.ensures))
+          kept_kind_not h words c.args.choice.now.at c.args.choice.now.depth i c.kind_of-kind.result c.requires.few
+          (c.kind_of-kind.ensures ∙ ap (λ s. (kept_step words s).kind) (c.level_step.ensures ∙ ap (λ n. level_step n c.args.choice.now.depth) c.steps.ensures))
           (c.next_of_who.ensures.passed i l k t))
-          (λ t. c.in-Some.ensures i t (omega (arith, c.next_of_who.ensures.bounds, c.requires.depth_bound.1.1)));
+          (λ t. c.in-Some.ensures i t (omega (arith, c.next_of_who.ensures.bounds, c.requires.inside)));
     }

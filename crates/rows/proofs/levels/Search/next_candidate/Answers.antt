@@ -10,7 +10,7 @@ returns c =
     record {
       bounds = c.next_of_kind.ensures.bounds;
       passed = λ i l k.
-          kept_kind_not c.args.self.now.held words c.args.at.now c.args.depth i c.kind_of-kind.result c.requires.0
-          (c.kind_of-kind.ensures ∙ ap (λ s. (kept_step words s).kind) (c.level_step.ensures ∙ ap (λ n. level_step n c.args.depth) c.steps.ensures))
+          kept_kind_not c.args.self.now.held words c.args.choice.now.at c.args.choice.now.depth i c.kind_of-kind.result c.requires.few
+          (c.kind_of-kind.ensures ∙ ap (λ s. (kept_step words s).kind) (c.level_step.ensures ∙ ap (λ n. level_step n c.args.choice.now.depth) c.steps.ensures))
           (c.next_of_kind.ensures.passed i l k);
     }
