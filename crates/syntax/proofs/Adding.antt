@@ -1,16 +1,15 @@
 -- What is added to what is read is fine.
-use Rattle.std.proofs.Common.{◌≡◌, ℕ, suc, ◌+◌, Bool, true, false, List, [], ◌∷◌, ◌++◌, length, refl, arith, length-append}
+use Rattle.std.proofs.Common.{◌≡◌, ℕ, suc, ◌+◌, ◌<◌, Bool, true, false, List, [], ◌∷◌, ◌++◌, length, refl, arith, length-append}
 use Rattle.std.proofs.lemmas.Bool.{and_parts, and_from, lt-ltb, le-leb}
-use Rattle.timeline.specs.Lists.{pick, every}
+use Rattle.timeline.specs.Lists.{every}
 use Rattle.patterns.specs.Patterns.{Step}
 use Rattle.patterns.specs.Limits.{a_test, a_step, some_steps}
 use Rattle.patterns.specs.Reading.{a_never}
-use Rattle.syntax.specs.declared.places.Head.{Head}
-use Rattle.syntax.specs.declared.places.Act.{Act}
-use Rattle.syntax.specs.declared.places.Act.TheVariants.{Nothing, Test, End}
-use Rattle.syntax.specs.declared.places.Move.{Move}
+use Rattle.syntax.specs.declared.moves.Act.{Act}
+use Rattle.syntax.specs.declared.moves.Act.TheVariants.{Nothing, Test, EndStep, EndNever}
+use Rattle.syntax.specs.declared.moves.Move.{Move}
 use Rattle.syntax.specs.Reading.{Built, test_of, with_never, with_step, with_act, moved}
-use Rattle.syntax.proofs.Sound.{Fine, FineHead, FineAct, FineMove, Sound}
+use Rattle.syntax.specs.Sound.{Fine, FineAct, FineMove, Sound}
 
 every_push : {A : Type 0} (f : A → Bool) (xs : List A) (x : A) → every f xs ≡ true → f x ≡ true → every f (xs ++ (x ∷ [])) ≡ true
 unfolding every
@@ -25,32 +24,32 @@ steps_push n (t ∷ ts) s a b =
     let both = and_parts (a_step n t) (some_steps (suc n) ts) a in
     and_from (a_step n t) _ both.0 (steps_push (suc n) ts s both.1 (rw e at b))
 
-fine_never : (w : Built) (h : Head) → Fine w → FineHead h w → h.never ≡ true → Fine (with_never w h)
+fine_never : (w : Built) (k : ℕ) → Fine w → k < 65536 → length w.nevers < 2 → Fine (with_never w k)
 unfolding every
-fine_never w h f g e =
+fine_never w k f l m =
     record {
       names = f.names;
       steps = f.steps;
       steps_few = f.steps_few;
-      nevers = every_push (a_never (length w.steps)) w.nevers (record { kind = h.kind; tests = w.tests }) f.nevers (and_from _ _ (lt-ltb _ _ g.kind) (and_from _ _ (le-leb _ _ f.tests_few) f.tests));
-      nevers_few = rw length-append (let k = g.nevers e in omega arith);
+      nevers = every_push (a_never (length w.steps)) w.nevers (record { kind = k; tests = w.tests }) f.nevers (and_from _ _ (lt-ltb _ _ l) (and_from _ _ (le-leb _ _ f.tests_few) f.tests));
+      nevers_few = rw length-append (omega arith);
       tests = refl;
       tests_few = omega arith;
     }
 
-fine_step : (w : Built) (h : Head) → Fine w → FineHead h w → Fine (with_step w h)
+fine_step : (w : Built) (k name : ℕ) → Fine w → k < 65536 → length w.names < 6 → Fine (with_step w k name)
 unfolding every
-fine_step w h f g =
+fine_step w k name f l m =
     record {
       names = rw (length-append, length-append) (let e = f.names in omega arith);
-      steps = steps_push 0 w.steps (record { kind = h.kind; tests = w.tests; never = w.nevers }) f.steps (
+      steps = steps_push 0 w.steps (record { kind = k; tests = w.tests; never = w.nevers }) f.steps (
           let e : 0 + length w.steps ≡ length w.steps = omega arith in
           rw e (
-          and_from _ _ (and_from _ _ (lt-ltb _ _ g.kind) (and_from _ _ (le-leb _ _ f.tests_few) f.tests))
+          and_from _ _ (and_from _ _ (lt-ltb _ _ l) (and_from _ _ (le-leb _ _ f.tests_few) f.tests))
           (and_from _ _ (le-leb _ _ f.nevers_few) f.nevers)
           )
           );
-      steps_few = rw length-append (let k = g.steps in let e = f.names in omega arith);
+      steps_few = rw length-append (let e = f.names in omega arith);
       nevers = refl;
       nevers_few = omega arith;
       tests = refl;
@@ -69,11 +68,8 @@ fine_act w (Test t) f g =
       tests = every_push (a_test (length w.steps)) w.tests (test_of t) f.tests g.1;
       tests_few = rw length-append (omega (arith, g.0));
     }
-fine_act w (End h) f g = by_kind h.never refl
-  where
-    by_kind : (b : Bool) → h.never ≡ b → Fine (pick b (with_never w h) (with_step w h))
-    by_kind true e = fine_never w h f g e
-    by_kind false e = fine_step w h f g
+fine_act w (EndStep k name) f g = fine_step w k name f g.0 g.1
+fine_act w (EndNever k) f g = fine_never w k f g.0 g.2
 
 pub sound_move : (w : Built) (m : Move) → Fine w → FineMove w m → Sound (moved w m)
 sound_move w m f g = record { built = fine_act w m.act f g.act; stand = g.stand }

@@ -1,17 +1,18 @@
 -- A step or a never that is whole goes on to a pattern.
 use Rattle.std.proofs.Common.{◌≡◌, ℕ, ◌+◌, ◌<◌, Bool, true, false, ltb, List, [], ◌∷◌, ◌++◌, length, None, codes, refl, ◌∙◌, arith, length-append}
 use Rattle.std.proofs.lemmas.Bool.{lt-ltb}
-use Rattle.timeline.specs.Lists.{pick}
 use Rattle.patterns.specs.Patterns.{Pattern}
+use Rattle.syntax.specs.declared.places.Role.{Role}
+use Rattle.syntax.specs.declared.places.Role.TheVariants.{Step, Never}
 use Rattle.syntax.specs.declared.places.Head.{Head}
 use Rattle.syntax.specs.declared.places.Slot.TheVariants.{StepKind, NeverKind, Window, Lateness}
 use Rattle.syntax.specs.declared.places.Place.TheVariants.{Item, Number, StepName, NeverName, Named, Tested, LateWord, Whole}
 use Rattle.syntax.specs.declared.places.Stand.TheVariants.{At, Digits}
-use Rattle.syntax.specs.declared.places.Act.TheVariants.{End}
+use Rattle.syntax.specs.declared.moves.Act.TheVariants.{EndNever}
 use Rattle.syntax.specs.Names.{step_named}
-use Rattle.syntax.specs.Rules.{goes}
+use Rattle.syntax.specs.Rules.{goes, ended_as, ended}
 use Rattle.syntax.specs.Reading.{Built, State, means, with_never, with_step, with_act, runs}
-use Rattle.syntax.proofs.Sound.{FineHead}
+use Rattle.syntax.specs.Sound.{FineHead}
 use Rattle.syntax.proofs.Letters.{lettered}
 use Rattle.syntax.proofs.Passing.{st, Passes, pass_begin}
 use Rattle.syntax.proofs.Free.{free}
@@ -58,29 +59,29 @@ module _ (w : Built) where
 
 -- STEPS AND NEVERS
 
-pub named_end : (h : Head) (w : Built) → Passes (st (At (Named h)) w) (codes ";") (st (At Item) (with_act w (End h)))
+pub named_end : (h : Head) (w : Built) → Passes (st (At (Named h)) w) (codes ";") (st (At Item) (with_act w (ended h)))
 unfolding runs
 named_end h w = record { on = λ at rest. (at + 1, refl) }
 
-pub tested_end : (h : Head) (w : Built) → Passes (st (At (Tested h)) w) (codes ";") (st (At Item) (with_act w (End h)))
+pub tested_end : (h : Head) (w : Built) → Passes (st (At (Tested h)) w) (codes ";") (st (At Item) (with_act w (ended h)))
 unfolding runs
 tested_end h w = record { on = λ at rest. (at + 1, refl) }
 
 -- a step of any name goes on
-live_step : (w : Built) (h : Head) → Live (st (At Item) (with_step w h))
-live_step w h = live_some (with_step w h) (rw (length-append w.names (h.name ∷ [])) (omega arith)) refl
+live_step : (w : Built) (k name : ℕ) → Live (st (At Item) (with_step w k name))
+live_step w k name = live_some (with_step w k name) (rw (length-append w.names (name ∷ [])) (omega arith)) refl
 
 module _ (w : Built) (few : length w.names < 6) where
   pub live_step_name : (k : ℕ) → Live (st (At (StepName k)) w)
   live_step_name k =
       let f = free 6 97 w.names few in
       let b = f.letter in
-      let h : Head = record { never = false; kind = k; name = b } in
+      let h : Head = record { role = Step; kind = k; name = b } in
       let is = lettered b f.low (omega (arith, f.high)) in
       let is-letter = is.letter in
       let new : step_named b w.names ≡ None = f.new in
       live_by (b ∷ []) (pass_begin b (StepName k) w (goes (At (Named h))) is.digit is.white (rw (is-letter, new)))
-      (live_by (codes ";") (named_end h w) (live_step w h))
+      (live_by (codes ";") (named_end h w) (live_step w k b))
 
   pub live_step_digits : (k : ℕ) → Live (st (Digits StepKind k) w)
   live_step_digits k = live_by (32 ∷ []) (step_space k w) (live_step_name k)
@@ -93,18 +94,18 @@ module _ (w : Built) (few : length w.names < 6) where
   pub live_new : Live (st (At Item) w)
   live_new = live_by (codes "0") item_zero (live_step_digits 0)
 
-pub live_ended : (h : Head) (w : Built) → FineHead h w → Live (st (At Item) (with_act w (End h)))
-live_ended h w f = by h.never
+pub live_ended : (h : Head) (w : Built) → FineHead h w → Live (st (At Item) (with_act w (ended h)))
+live_ended h w f = by h.role
   where
-    by : (t : Bool) → Live (st (At Item) (pick t (with_never w h) (with_step w h)))
-    by true = live_new (with_never w h) f.steps
-    by false = live_step w h
+    by : (r : Role) → Live (st (At Item) (with_act w (ended_as r h.kind h.name)))
+    by Step = live_step w h.kind h.name
+    by Never = live_new (with_never w h.kind) f.steps
 
-pub never_end : (k : ℕ) (w : Built) → Passes (st (At (NeverName k)) w) (codes ";") (st (At Item) (with_act w (End (record { never = true; kind = k; name = 0 }))))
+pub never_end : (k : ℕ) (w : Built) → Passes (st (At (NeverName k)) w) (codes ";") (st (At Item) (with_act w (EndNever k)))
 unfolding runs
 never_end k w = record { on = λ at rest. (at + 1, refl) }
 
-pub never_digits_end : (k : ℕ) (w : Built) → Passes (st (Digits NeverKind k) w) (codes ";") (st (At Item) (with_act w (End (record { never = true; kind = k; name = 0 }))))
+pub never_digits_end : (k : ℕ) (w : Built) → Passes (st (Digits NeverKind k) w) (codes ";") (st (At Item) (with_act w (EndNever k)))
 unfolding runs
 never_digits_end k w = record { on = λ at rest. (at + 1, refl) }
 

@@ -8,7 +8,10 @@ use Rattle.patterns.specs.declared.fields.Sign.TheVariants.{Equal, Below, NotBel
 use Rattle.patterns.specs.Codes.{field_number}
 use Rattle.syntax.specs.declared.words.Word.{Word}
 use Rattle.syntax.specs.declared.words.Word.TheVariants.{Not, Where, And, Within, Late, Of, AtLeast}
+use Rattle.syntax.specs.declared.places.Role.{Role}
+use Rattle.syntax.specs.declared.places.Role.TheVariants.{Step, Never}
 use Rattle.syntax.specs.declared.places.Head.{Head}
+use Rattle.syntax.specs.declared.moves.Act.TheVariants.{EndNever}
 use Rattle.syntax.specs.declared.places.Slot.TheVariants.{NeverKind, Window, Lateness}
 use Rattle.syntax.specs.declared.places.Part.{Part}
 use Rattle.syntax.specs.declared.places.Part.TheVariants.{Own, OwnDot, What, How, Against, OtherDot, OtherField}
@@ -18,9 +21,9 @@ use Rattle.syntax.specs.declared.places.Stand.{Stand}
 use Rattle.syntax.specs.declared.places.Stand.TheVariants.{At, Rest, Digits}
 use Rattle.syntax.specs.Words.{white, digit, spelling, field_begun}
 use Rattle.syntax.specs.Names.{step_named}
-use Rattle.syntax.specs.Rules.{adds, ends, begins_item, begins_name, begins_sign, begins_part, begins, spelled, steps_on}
-use Rattle.syntax.specs.Reading.{Built, with_never, with_step}
-use Rattle.syntax.proofs.Sound.{Fine, FineHead, FinePlace, FineStand, FineMove, Fits}
+use Rattle.syntax.specs.Rules.{adds, ends, ended_as, ended, begins_item, begins_name, begins_sign, begins_part, begins, spelled, steps_on}
+use Rattle.syntax.specs.Reading.{Built}
+use Rattle.syntax.specs.Sound.{Fine, FineRole, FineHead, FinePlace, FineStand, FineMove, Fits}
 use Rattle.syntax.proofs.Moving.{fits_if, fits_pick, fits_mapped, going, named_below, field_few, sign_few, field_long, head_kept, fits_counted, fits_digit}
 
 -- NAMES, WORDS AND MARKS
@@ -35,15 +38,18 @@ module _ (w : Built) (b : ℕ) where
       (λ _. fits_if w _ _ (λ e. let t = and_parts _ _ e in going w (Rest Within 1 (Number Window)) (ltb-true _ _ t.0, lit< tt))) tt
       )
 
-  fits_name : (never : Bool) (k : ℕ) → k < 65536 → length w.names < 6 → (never ≡ true → length w.nevers < 2) → length w.tests ≡ 0 → Fits w (begins_name never k w.names b)
-  fits_name never k l m n e = fits_if w _ _ (λ t. going w (At (Named (record { never = never; kind = k; name = b }))) (record { kind = l; steps = m; nevers = n }, (and_parts _ _ t).0, e))
+  fits_name : (role : Role) (k : ℕ) → k < 65536 → length w.names < 6 → FineRole role (length w.nevers) → length w.tests ≡ 0 → Fits w (begins_name role k w.names b)
+  fits_name role k l m n e = fits_if w _ _ (λ t. going w (At (Named (record { role = role; kind = k; name = b }))) (record { kind = l; steps = m; nevers = n }, (and_parts _ _ t).0, e))
 
-  ending : (h : Head) → FineHead h w → FineMove w (ends h)
-  ending h f = record { act = f; stand = by h.never }
+  ending_never : (k : ℕ) → k < 65536 → length w.names < 6 → length w.nevers < 2 → FineMove w (ends (EndNever k))
+  ending_never k l m n = record { act = (l, m, n); stand = (refl, λ few. absurd (omega arith)) }
+
+  ending : (h : Head) → FineHead h w → FineMove w (ends (ended h))
+  ending h f = by h.role f.nevers
     where
-      by : (t : Bool) → FinePlace Item (pick t (with_never w h) (with_step w h))
-      by true = (refl, λ l. absurd (omega (arith, f.steps)))
-      by false = (refl, λ _. refl)
+      by : (r : Role) → FineRole r (length w.nevers) → FineMove w (ends (ended_as r h.kind h.name))
+      by Step n = record { act = (f.kind, f.steps); stand = (refl, λ _. refl) }
+      by Never n = ending_never h.kind f.kind f.steps n
 
   fits_sign : (h : Head) (f : Field) → FinePlace (Testing h Own) w → Fits w (begins_sign h f b)
   fits_sign h f g =
@@ -77,10 +83,10 @@ module _ (w : Built) (b : ℕ) where
   fits_begins : (p : Place) → Fine w → FinePlace p w → Fits w (begins p w.names (length w.nevers) (length w.tests) b)
   fits_begins Item fine h = fits_item h
   fits_begins (Number n) fine h = tt
-  fits_begins (StepName k) fine h = fits_name false k h.0 h.1 (λ e. let z : ◌≡◌ {A = ℕ} 0 1 = cc in absurd (omega arith)) h.2
+  fits_begins (StepName k) fine h = fits_name Step k h.0 h.1 tt h.2
   fits_begins (NeverName k) fine h =
-      fits_pick w (eqb b 59) _ _ (λ _. ending (record { never = true; kind = k; name = 0 }) (record { kind = h.0; steps = h.1; nevers = λ _. h.2 }))
-      (fits_name true k h.0 h.1 (λ _. h.2) h.3)
+      fits_pick w (eqb b 59) _ _ (λ _. ending_never k h.0 h.1 h.2)
+      (fits_name Never k h.0 h.1 h.2 h.3)
   fits_begins (Named g) fine h =
       fits_pick w (eqb b 59) _ _ (λ _. ending g h.0) (fits_if w _ _ (λ _. going w (Rest Where 1 (Testing g Own)) ((h.0, h.1, omega (arith, h.2), tt), lit< tt)))
   fits_begins (Testing g p) fine h = fits_part g p fine h

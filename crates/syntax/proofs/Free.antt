@@ -1,5 +1,5 @@
 -- A letter that is free: of more letters than there are names, one is no name.
-use Rattle.std.proofs.Common.{◌≡◌, ℕ, zero, suc, ◌+◌, ◌<◌, ◌≤◌, Bool, true, false, not, eqb, List, [], ◌∷◌, length, Some, None, Option, sym, refl, ◌∙◌, arith}
+use Rattle.std.proofs.Common.{◌≡◌, ℕ, zero, suc, ◌+◌, ◌<◌, ◌≤◌, Bool, true, false, cond, not, eqb, List, [], ◌∷◌, length, Some, None, Option, sym, refl, ◌∙◌, arith}
 use Rattle.std.proofs.lemmas.Bool.{eqb-true}
 use Rattle.timeline.specs.Lists.{pick, those}
 use Rattle.syntax.specs.Names.{named_from}
@@ -26,7 +26,7 @@ unfolding those
 others_fewer c n i [] e = let z : ◌≡◌ {A = ℕ} 0 1 = cc in absurd (omega arith)
 others_fewer c n i (x ∷ xs) e = by (eqb x c) e (others_fewer c (n + 1) i xs) (others_few c xs)
   where
-    by : (t : Bool) → pick t (Some n) (named_from (n + 1) c xs) ≡ Some i → (named_from (n + 1) c xs ≡ Some i → length (others c xs) < length xs) → length (others c xs) ≤ length xs
+    by : (t : Bool) → cond t (Some n) (named_from (n + 1) c xs) ≡ Some i → (named_from (n + 1) c xs ≡ Some i → length (others c xs) < length xs) → length (others c xs) ≤ length xs
         → length (pick (not t) (x ∷ others c xs) (others c xs)) < suc (length xs)
     by true h rec few = omega arith
     by false h rec few = omega (arith, rec h)
@@ -38,7 +38,7 @@ others_all c b n m [] d e = refl
 others_all c b n m (x ∷ xs) d e = by (eqb x c) refl (eqb x b) refl e (λ k. others_all c b k (m + 1) xs d)
   where
     by : (t : Bool) → eqb x c ≡ t → (u : Bool) → eqb x b ≡ u → named_from n b (pick (not t) (x ∷ others c xs) (others c xs)) ≡ None
-        → ((k : ℕ) → named_from k b (others c xs) ≡ None → named_from (m + 1) b xs ≡ None) → pick u (Some m) (named_from (m + 1) b xs) ≡ None
+        → ((k : ℕ) → named_from k b (others c xs) ≡ None → named_from (m + 1) b xs ≡ None) → cond u (Some m) (named_from (m + 1) b xs) ≡ None
     by true f true g h rec = absurd (d (sym (eqb-true x b g) ∙ eqb-true x c f))
     by true f false g h rec = rec n h
     by false f true g h rec = let z : ◌≡◌ {A = ℕ} 0 1 = no_some (rw g at h) in absurd (omega arith)

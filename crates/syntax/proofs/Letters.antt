@@ -26,7 +26,7 @@ found k c (suc m) (suc i) l =
     let e : eqb c (c + suc i) ≡ false = ne_eqb _ _ (omega arith) in
     let f : c + suc i ≡ suc c + i = omega arith in
     let g : k + 1 + i ≡ k + suc i = omega arith in
-    rw e (rw f (found (k + 1) (suc c) m i (omega arith) ∙ ap Some g))
+    rw e (ap (λ b. named_from (k + 1) b (run (suc c) m)) f ∙ found (k + 1) (suc c) m i (omega arith) ∙ ap Some g)
 
 pub not_found : (k c m b : ℕ) → c + m ≤ b → named_from k b (run c m) ≡ None
 unfolding run

@@ -1,6 +1,5 @@
 mod Looking
 mod Growing
-mod Sound
 mod Adding
 mod Moving
 mod Fitting
@@ -18,4 +17,3 @@ mod Free
 mod Endings
 mod Living
 mod Stopping
-mod Listed

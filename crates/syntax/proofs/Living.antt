@@ -17,12 +17,12 @@ use Rattle.syntax.specs.declared.places.Place.TheVariants.{Item, Number, StepNam
 use Rattle.syntax.specs.declared.places.Stand.{Stand}
 use Rattle.syntax.specs.declared.places.Stand.TheVariants.{At, Rest, Digits}
 use Rattle.syntax.specs.declared.places.Comparison.{Comparison}
-use Rattle.syntax.specs.declared.places.Act.TheVariants.{Test, End}
+use Rattle.syntax.specs.declared.moves.Act.TheVariants.{Test}
 use Rattle.syntax.specs.Words.{letter, digit, spelling}
-use Rattle.syntax.specs.Rules.{goes, spelled}
+use Rattle.syntax.specs.Rules.{goes, ended, spelled}
 use Rattle.syntax.specs.Reading.{Built, with_never, with_act, ready, next, runs}
 use Rattle.syntax.specs.Typed.{sign_text}
-use Rattle.syntax.proofs.Sound.{FineHead, FineSlot, FinePlace, FineStand}
+use Rattle.syntax.specs.Sound.{FineHead, FineSlot, FinePlace, FineStand}
 use Rattle.syntax.proofs.Moving.{head_kept}
 use Rattle.syntax.proofs.Letters.{lettered_by}
 use Rattle.syntax.proofs.Passing.{st, Passes, then, pass_byte, pass_begin}
@@ -32,7 +32,7 @@ use Rattle.syntax.proofs.Endings.{Live, live_by, live_whole, live_late_digits, l
 -- TESTS
 
 module _ (h : Head) (w : Built) (f : Field) (s : Sign) where
-  other_end : (v : ℕ) → Passes (st (Digits (Other h f s) v) w) (codes ";") (st (At Item) (with_act (with_act w (Test (record { what = f; sign = s; step = None; other = v }))) (End h)))
+  other_end : (v : ℕ) → Passes (st (Digits (Other h f s) v) w) (codes ";") (st (At Item) (with_act (with_act w (Test (record { what = f; sign = s; step = None; other = v }))) (ended h)))
   unfolding runs
   other_end v = record { on = λ at rest. (at + 1, refl) }
 
@@ -94,14 +94,14 @@ live_part h (OtherField g s i) w f e = live_other_field h w f g s i
 live_slot : (n : Slot) (w : Built) → FineSlot n w → Live (st (At (Number n)) w)
 live_slot StepKind w h = live_by (codes "0") (step_zero w) (live_step_digits w h.0 0)
 live_slot NeverKind w h =
-    live_by (codes "0") (never_zero w) (live_by (codes ";") (never_digits_end 0 w) (live_new (with_never w (record { never = true; kind = 0; name = 0 })) h.0))
+    live_by (codes "0") (never_zero w) (live_by (codes ";") (never_digits_end 0 w) (live_new (with_never w 0) h.0))
 live_slot (Other g f s) w h = live_by (codes "0") (slot_zero g w f s) (live_other_digits g w h.0 f s 0)
 live_slot Window w h = live_window w
 live_slot (Lateness t) w h = live_lateness w t
 
 live_digits : (n : Slot) (v : ℕ) (w : Built) → FineSlot n w → Live (st (Digits n v) w)
 live_digits StepKind v w h = live_step_digits w h.0 v
-live_digits NeverKind v w h = live_by (codes ";") (never_digits_end v w) (live_new (with_never w (record { never = true; kind = v; name = 0 })) h.0)
+live_digits NeverKind v w h = live_by (codes ";") (never_digits_end v w) (live_new (with_never w v) h.0)
 live_digits (Other g f s) v w h = live_other_digits g w h.0 f s v
 live_digits Window v w h = live_window_digits w v
 live_digits (Lateness t) v w h = live_late_digits w t v
@@ -117,7 +117,7 @@ live_place : (p : Place) (w : Built) → FinePlace p w → Live (st (At p) w)
 live_place Item w h = live_item w h
 live_place (Number n) w h = live_slot n w h
 live_place (StepName k) w h = live_step_name w h.1 k
-live_place (NeverName k) w h = live_by (codes ";") (never_end k w) (live_new (with_never w (record { never = true; kind = k; name = 0 })) h.1)
+live_place (NeverName k) w h = live_by (codes ";") (never_end k w) (live_new (with_never w k) h.1)
 live_place (Named g) w h = live_by (codes ";") (named_end g w) (live_ended g w h.0)
 live_place (Testing g p) w h = live_part g p w h.0 h.1
 live_place (Tested g) w h = live_tested g w h.0

@@ -8,13 +8,14 @@ use Rattle.patterns.specs.Numbers.{pattern_in}
 use Rattle.syntax.specs.declared.places.Place.TheVariants.{Item, Number, StepName, NeverName, Named, Testing, Tested, LateWord, Whole}
 use Rattle.syntax.specs.declared.places.Stand.{Stand}
 use Rattle.syntax.specs.declared.places.Stand.TheVariants.{At, Rest, Digits}
-use Rattle.syntax.specs.declared.refusals.Refusal.{Refusal}
+use Rattle.syntax.specs.declared.reading.Refusal.{Refusal}
 use Rattle.syntax.specs.declared.expects.Expected.{Expected}
-use Rattle.syntax.specs.Reading.{Built, State, means, refused, settled, ready, next, wanted, whole, by_some, runs, begun, reads}
+use Rattle.syntax.specs.Reading.{Built, State, Reading, means, refused, settled, ready, next, wanted, whole, by_some, runs, begun, reads}
 use Rattle.syntax.specs.Rows.{pattern_row}
-use Rattle.syntax.specs.Readers.{Gives}
+use Rattle.syntax.specs.Readers.{Rowed}
+use Rattle.arrayvec.specs.ArrayVec.{ArrayVec}
 use Rattle.syntax.specs.Laws.{ReadMayBe}
-use Rattle.syntax.proofs.Sound.{Fine, FineStand, Sound}
+use Rattle.syntax.specs.Sound.{Fine, FineStand, Sound}
 use Rattle.syntax.proofs.Staying.{sound_begun, sound_settled, sound_ready, sound_next}
 use Rattle.syntax.proofs.Back.{pattern_back}
 
@@ -56,9 +57,13 @@ pub read_may_be : ReadMayBe
 unfolding ReadMayBe
 read_may_be = λ text p e. let ok = meant_may_be text p e in (ok, pattern_back p ok)
 
--- the numbers that are given say a pattern that may be
-pub given_may_be : (p : Pattern) (before after : List ℕ) (r : Result ℕ Refusal) → a_pattern p ≡ true → Gives p before after r → IfOk r (λ n. a_pattern (pattern_in (take n after)) ≡ true)
-given_may_be p before after (Ok n) ok h =
-    let row : take n after ≡ pattern_row p = ap (take n) h.row ∙ take_at (pattern_row p) (drop n before) n (sym h.long) in
-    ap (λ xs. a_pattern (pattern_in xs)) row ∙ ap a_pattern (pattern_back p ok) ∙ ok
-given_may_be p before after (Err e) ok h = tt
+-- the numbers that are read say a pattern that may be
+rowed_as : (r : Reading) (row : ArrayVec ℕ) → Rowed r (Ok row) → (p : Pattern) × (r ≡ means p) × (row.items ≡ pattern_row p)
+rowed_as (means p) row h = (p, refl, h)
+rowed_as (refused b e) row h = let z : ◌≡◌ {A = ℕ} 0 1 = cc in absurd (omega arith)
+
+pub rowed_may_be : (text : List ℕ) (row : ArrayVec ℕ) → Rowed (reads text) (Ok row) → a_pattern (pattern_in row.items) ≡ true
+rowed_may_be text row h =
+    let is = rowed_as (reads text) row h in
+    let may = meant_may_be text is.0 is.1 in
+    ap (λ xs. a_pattern (pattern_in xs)) is.2 ∙ ap a_pattern (pattern_back is.0 may) ∙ may

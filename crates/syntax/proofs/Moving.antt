@@ -1,5 +1,5 @@
 -- Moves of a reader that are fine by what is tested, and numbers.
-use Rattle.std.proofs.Common.{◌≡◌, ℕ, suc, ◌+◌, ◌-◌, ◌*◌, ◌<◌, Bool, true, false, eqb, ltb, List, [], ◌∷◌, length, Some, None, Option, refl, arith, lit<}
+use Rattle.std.proofs.Common.{◌≡◌, ℕ, suc, ◌+◌, ◌-◌, ◌*◌, ◌<◌, Bool, true, false, cond, eqb, ltb, List, [], ◌∷◌, length, Some, None, Option, refl, arith, lit<}
 use Rattle.std.specs.Option.{option_map}
 use Rattle.std.proofs.lemmas.Bool.{and_from, lt-ltb, ltb-true}
 use Rattle.timeline.specs.Lists.{pick, none_of}
@@ -18,13 +18,13 @@ use Rattle.syntax.specs.declared.places.Place.TheVariants.{Item, Number, StepNam
 use Rattle.syntax.specs.declared.places.Stand.{Stand}
 use Rattle.syntax.specs.declared.places.Stand.TheVariants.{At, Rest, Digits}
 use Rattle.syntax.specs.declared.places.Comparison.{Comparison}
-use Rattle.syntax.specs.declared.places.Act.TheVariants.{Test}
-use Rattle.syntax.specs.declared.places.Move.{Move}
+use Rattle.syntax.specs.declared.moves.Act.TheVariants.{Test}
+use Rattle.syntax.specs.declared.moves.Move.{Move}
 use Rattle.syntax.specs.Words.{spelling}
 use Rattle.syntax.specs.Names.{named_from}
 use Rattle.syntax.specs.Rules.{goes, only_if, slot_of, limit, counted, counts, numbered, settle}
 use Rattle.syntax.specs.Reading.{Built, with_act}
-use Rattle.syntax.proofs.Sound.{FineHead, FineSlot, FinePlace, FineStand, FineMove, Fits}
+use Rattle.syntax.specs.Sound.{FineHead, FineSlot, FinePlace, FineStand, FineMove, Fits}
 
 -- MOVES BY TESTS
 
@@ -51,7 +51,7 @@ pub named_below : (n b i : ℕ) (xs : List ℕ) → named_from n b xs ≡ Some i
 named_below n b i [] e = let z : ◌≡◌ {A = ℕ} 0 1 = cc in absurd (omega arith)
 named_below n b i (x ∷ xs) e = by (eqb x b) e (named_below (n + 1) b i xs)
   where
-    by : (t : Bool) → pick t (Some n) (named_from (n + 1) b xs) ≡ Some i → (named_from (n + 1) b xs ≡ Some i → i < n + 1 + length xs) → i < n + suc (length xs)
+    by : (t : Bool) → cond t (Some n) (named_from (n + 1) b xs) ≡ Some i → (named_from (n + 1) b xs ≡ Some i → i < n + 1 + length xs) → i < n + suc (length xs)
     by true h rec = let k : n ≡ i = cc in omega arith
     by false h rec = omega (arith, rec h)
 

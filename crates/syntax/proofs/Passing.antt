@@ -8,7 +8,7 @@ use Rattle.syntax.specs.declared.places.Slot.TheVariants.{StepKind, NeverKind, O
 use Rattle.syntax.specs.declared.places.Place.{Place}
 use Rattle.syntax.specs.declared.places.Stand.{Stand}
 use Rattle.syntax.specs.declared.places.Stand.TheVariants.{At, Digits}
-use Rattle.syntax.specs.declared.places.Move.{Move}
+use Rattle.syntax.specs.declared.moves.Move.{Move}
 use Rattle.syntax.specs.Words.{white, digit}
 use Rattle.syntax.specs.Rules.{slot_of, limit, numbered, begins}
 use Rattle.syntax.specs.Reading.{Built, State, refused, moved, settled, ready, next, wanted, by_some, runs}

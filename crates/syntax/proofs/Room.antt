@@ -1,5 +1,5 @@
 -- A reader always has room for what may come next.
-use Rattle.std.proofs.Common.{◌≡◌, ℕ, suc, ◌*◌, ◌≤◌, true, ◌&&◌, ltb, leb, List, [], ◌∷◌, length, refl, arith, length-append}
+use Rattle.std.proofs.Common.{◌≡◌, ℕ, suc, ◌*◌, ◌≤◌, true, ◌&&◌, ltb, leb, List, [], ◌∷◌, length, sym, refl, ap, ◌∙◌, arith, length-append}
 use Rattle.std.proofs.lemmas.Bool.{and_parts, leb-true}
 use Rattle.timeline.specs.Lists.{every, flat}
 use Rattle.patterns.specs.Patterns.{Test, Never, Step}
@@ -10,7 +10,11 @@ use Rattle.syntax.specs.declared.drafts.Draft.{Draft}
 use Rattle.syntax.specs.Rows.{never_row, step_row}
 use Rattle.syntax.specs.Reading.{Built}
 use Rattle.syntax.specs.Drafts.{Drawn, Roomy}
-use Rattle.syntax.proofs.Sound.{Fine}
+use Rattle.syntax.specs.declared.readers.Reader.{Reader}
+use Rattle.syntax.specs.Reading.{State}
+use Rattle.syntax.specs.Sound.{Fine, Sound}
+use Rattle.syntax.specs.Readers.{Stands}
+use Rattle.syntax.proofs.Growing.{length_each}
 
 pub tests_long : (ts : List Test) → length (flat test_cells ts) ≡ 5 * length ts
 unfolding flat test_cells
@@ -49,11 +53,20 @@ steps_short n (s ∷ ss) e =
     let ih = steps_short (suc n) ss both.1 in
     rw (length-append (step_row s) (flat step_row ss)) (omega (arith, step_short n s both.0))
 
+pub drawn_nevers : (d : Draft) (w : Built) → Drawn d w → length d.nevers.items ≡ length w.nevers
+drawn_nevers d w h = sym (length_each (λ v. v.items) d.nevers.items) ∙ ap length h.nevers ∙ length_each never_row w.nevers
+
+pub drawn_tests : (d : Draft) (w : Built) → Drawn d w → length d.tests.items ≡ length w.tests
+drawn_tests d w h = ap length h.tests ∙ length_each test_cells w.tests
+
 pub roomy : (d : Draft) (w : Built) → Fine w → Drawn d w → Roomy d
 roomy d w f h =
     record {
-      cells = omega (arith, h.steps.1, h.nevers.1, h.tests.1, steps_short 0 w.steps f.steps, nevers_short (length w.steps) w.nevers f.nevers, tests_long w.tests, f.steps_few, f.nevers_few, f.tests_few);
-      names = omega (arith, h.names.1, f.names, f.steps_few);
-      never_count = omega (arith, h.never_count, f.nevers_few);
-      test_count = omega (arith, h.test_count, f.tests_few);
+      steps = omega (arith, ap length h.steps, steps_short 0 w.steps f.steps, f.steps_few);
+      names = omega (arith, ap length h.names, f.names, f.steps_few);
+      nevers = omega (arith, drawn_nevers d w h, f.nevers_few);
+      tests = omega (arith, drawn_tests d w h, f.tests_few);
     }
+
+pub roomy_reader : (r : Reader) → (s : State) × Stands r s × Sound s → Roomy r.draft
+roomy_reader r h = roomy r.draft h.0.built h.2.built h.1.draft

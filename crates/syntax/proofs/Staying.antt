@@ -1,17 +1,22 @@
 -- A reader stays sound, byte by byte; and what it has read in the end is a pattern that may be.
-use Rattle.std.proofs.Common.{◌≡◌, ℕ, ◌+◌, ◌<◌, ◌≤◌, Bool, true, false, List, length, get_or, drop, Some, None, Err, Option, refl, ap, ◌∙◌, subst, add-one, arith, drop_of_length-le, drop-cons}
+use Rattle.std.proofs.Common.{◌≡◌, ℕ, ◌+◌, ◌<◌, ◌≤◌, Bool, true, false, List, length, get_or, drop, Some, None, Ok, Err, Option, refl, ap, ◌∙◌, subst, add-one, arith, drop_of_length-le, drop-cons}
 use Rattle.std.specs.Option.{option_map}
 use Rattle.timeline.specs.Lists.{pick, every}
 use Rattle.patterns.specs.Limits.{some_steps}
-use Rattle.syntax.specs.declared.places.Stand.{Stand}
-use Rattle.syntax.specs.declared.places.Move.{Move}
+use Rattle.syntax.specs.declared.moves.Move.{Move}
 use Rattle.syntax.specs.declared.expects.Expected.{Expected}
-use Rattle.syntax.specs.declared.refusals.Refusal.TheVariants.{At as refused_at}
+use Rattle.arrayvec.specs.ArrayVec.{ArrayVec}
+use Rattle.patterns.specs.Patterns.{Pattern}
 use Rattle.syntax.specs.Words.{digit}
 use Rattle.syntax.specs.Rules.{settle, steps_on}
 use Rattle.syntax.specs.Reading.{State, Reading, means, refused, moved, settled, ready, next, wanted, whole, by_some, ended, runs, begun}
-use Rattle.syntax.specs.Readers.{Answers}
-use Rattle.syntax.proofs.Sound.{Fits, Sound}
+use Rattle.syntax.specs.Expects.{expects}
+use Rattle.syntax.specs.declared.readers.Reader.{Reader}
+use Rattle.syntax.specs.declared.reading.Stop.{Stop}
+use Rattle.syntax.specs.Rows.{pattern_row}
+use Rattle.syntax.specs.Readers.{Stands, Rowed}
+use Rattle.syntax.specs.Sound.{Fits, Sound}
+use Rattle.syntax.proofs.Room.{drawn_nevers, drawn_tests}
 use Rattle.syntax.proofs.Adding.{sound_move}
 use Rattle.syntax.proofs.Moving.{settle_fine}
 use Rattle.syntax.proofs.Fitting.{fits_step}
@@ -41,11 +46,25 @@ sound_next b s t h e = by (steps_on s.stand s.built.names (length s.built.nevers
     by None g k = let z : ◌≡◌ {A = ℕ} 0 1 = cc in absurd (omega arith)
     by (Some m) g k = let same : moved s.built m ≡ t = cc in subst Sound same (sound_move s.built m h.built g)
 
-pub stepped : (b : ℕ) (s : State) (stand : Stand) (names : List ℕ) (nevers tests : ℕ) (m : Move) → Some m ≡ steps_on stand names nevers tests b → stand ≡ s.stand → names ≡ s.built.names
-    → nevers ≡ length s.built.nevers → tests ≡ length s.built.tests → next b s ≡ Some (moved s.built m)
-stepped b s stand names nevers tests m e f g h i =
-    let j : steps_on s.stand s.built.names (length s.built.nevers) (length s.built.tests) b ≡ Some m = cc in
-    ap (option_map (moved s.built)) j
+-- WHAT A READER ANSWERS, where it stands
+
+module _ (r : Reader) (s : State) (h : Stands r s) where
+  pub stands_next : (b : ℕ) (o : Option Move) → o ≡ steps_on r.stand r.draft.names.items (length r.draft.nevers.items) (length r.draft.tests.items) b → next b s ≡ option_map (moved s.built) o
+  stands_next b o e =
+      let stand = h.stand in
+      let names = h.draft.names in
+      let nevers = drawn_nevers r.draft s.built h.draft in
+      let tests = drawn_tests r.draft s.built h.draft in
+      let j : steps_on s.stand s.built.names (length s.built.nevers) (length s.built.tests) b ≡ o = cc in
+      ap (option_map (moved s.built)) j
+
+  pub stands_wanted : (e : Expected) → e ≡ expects r.stand (length r.draft.names.items) (length r.draft.nevers.items) (length r.draft.tests.items) → e ≡ wanted s
+  stands_wanted e k =
+      let stand = h.stand in
+      let names = h.draft.names in
+      let nevers = drawn_nevers r.draft s.built h.draft in
+      let tests = drawn_tests r.draft s.built h.draft in
+      cc
 
 -- THE BYTES THAT ARE LEFT
 
@@ -68,8 +87,11 @@ module _ (text : List ℕ) (i : ℕ) (s : State) where
 
 -- THE ANSWER
 
-pub answered_at : (r : Reading) (at : ℕ) (e d : Expected) (row : List ℕ) → r ≡ refused at e → d ≡ e → Answers r row row (Err (refused_at at d))
-answered_at r at e d row h k = rw h (ap (λ x. Err (refused_at at x)) k, refl)
+pub rowed_refused : (r : Reading) (at : ℕ) (e d : Expected) → r ≡ refused at e → d ≡ e → Rowed r (Err (record { at = at; expected = d }))
+rowed_refused r at e d h k = rw h (rw k refl)
+
+pub rowed_means : (r : Reading) (p : Pattern) (row : ArrayVec ℕ) → r ≡ means p → row.items ≡ pattern_row p → Rowed r (Ok row)
+rowed_means r p row h k = rw h k
 
 pub ended_whole : (at : ℕ) (s : State) (t l : ℕ) → whole s.stand ≡ Some (t, l) → ended at s ≡ means (record { steps = s.built.steps; within = t; late = l })
 ended_whole at s t l e = rw e

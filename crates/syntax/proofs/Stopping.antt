@@ -5,7 +5,7 @@ use Rattle.patterns.specs.Patterns.{Pattern}
 use Rattle.syntax.specs.declared.expects.Expected.{Expected}
 use Rattle.syntax.specs.Reading.{State, means, refused, settled, ready, next, wanted, whole, by_some, ended, runs, begun, reads}
 use Rattle.syntax.specs.Laws.{RefusedExactly}
-use Rattle.syntax.proofs.Sound.{Sound}
+use Rattle.syntax.specs.Sound.{Sound}
 use Rattle.syntax.proofs.Staying.{sound_begun, sound_ready, sound_next}
 use Rattle.syntax.proofs.Meaning.{no_pattern}
 use Rattle.syntax.proofs.Living.{live}

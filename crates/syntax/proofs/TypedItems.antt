@@ -4,15 +4,16 @@ use Rattle.std.proofs.lemmas.Bool.{and_parts, lt-ltb}
 use Rattle.timeline.specs.Lists.{every, run}
 use Rattle.patterns.specs.Patterns.{Test}
 use Rattle.patterns.specs.Limits.{a_test}
+use Rattle.syntax.specs.declared.places.Role.TheVariants.{Step, Never}
 use Rattle.syntax.specs.declared.places.Head.{Head}
 use Rattle.syntax.specs.declared.places.Slot.TheVariants.{StepKind, NeverKind}
 use Rattle.syntax.specs.declared.places.Part.TheVariants.{Own}
 use Rattle.syntax.specs.declared.places.Place.TheVariants.{Item, Number, StepName, NeverName, Named, Testing, Tested}
 use Rattle.syntax.specs.declared.places.Stand.TheVariants.{At, Digits}
-use Rattle.syntax.specs.declared.places.Act.TheVariants.{End}
+use Rattle.syntax.specs.declared.moves.Act.TheVariants.{EndStep, EndNever}
 use Rattle.syntax.specs.Words.{digit}
 use Rattle.syntax.specs.Names.{step_named}
-use Rattle.syntax.specs.Rules.{goes, slot_of}
+use Rattle.syntax.specs.Rules.{goes, ended, slot_of}
 use Rattle.syntax.specs.Reading.{Built, State, with_act, runs}
 use Rattle.syntax.specs.Typed.{step_letter, never_letter, typed_test, typed_more, typed_tests, typed_item}
 use Rattle.syntax.proofs.Letters.{Lettered, lettered, length_run, not_found}
@@ -54,11 +55,11 @@ abbrev pub with_tests : Built → List Test → Built
 with_tests w ts = record { steps = w.steps; names = w.names; nevers = w.nevers; tests = w.tests ++ ts }
 
 module _ (h : Head) (n : ℕ) (own : Lettered h.name) (few : n ≤ 6) where
-  end_tested : (w : Built) → Passes (st (At (Tested h)) w) (codes "; ") (st (At Item) (with_act w (End h)))
+  end_tested : (w : Built) → Passes (st (At (Tested h)) w) (codes "; ") (st (At Item) (with_act w (ended h)))
   unfolding runs
   end_tested w = record { on = λ at rest. (at + 1 + 1, refl) }
 
-  end_named : (w : Built) → Passes (st (At (Named h)) w) (codes "; ") (st (At Item) (with_act w (End h)))
+  end_named : (w : Built) → Passes (st (At (Named h)) w) (codes "; ") (st (At Item) (with_act w (ended h)))
   unfolding runs
   end_named w = record { on = λ at rest. (at + 1 + 1, refl) }
 
@@ -76,15 +77,15 @@ module _ (h : Head) (n : ℕ) (own : Lettered h.name) (few : n ≤ 6) where
   test_then t ts w u e k p =
       passes_as _ _ (sym (append_assoc (typed_test h.name t) (typed_more h.name ts) (codes "; "))) (before_then (typed_test h.name t) _ (test_before w h n t own e few k) (more_starts h.name ts) p)
 
-  tests_joined : (w : Built) (t : Test) (ts : List Test) → ◌≡◌ {A = State} (st (At Item) (with_act (with_tests (with_test w t) ts) (End h))) (st (At Item) (with_act (with_tests w (t ∷ ts)) (End h)))
+  tests_joined : (w : Built) (t : Test) (ts : List Test) → ◌≡◌ {A = State} (st (At Item) (with_act (with_tests (with_test w t) ts) (ended h))) (st (At Item) (with_act (with_tests w (t ∷ ts)) (ended h)))
   tests_joined w t ts =
-      ap (λ us. st (At Item) (with_act (record { steps = w.steps; names = w.names; nevers = w.nevers; tests = us }) (End h))) (append_assoc w.tests (t ∷ []) ts)
+      ap (λ us. st (At Item) (with_act (record { steps = w.steps; names = w.names; nevers = w.nevers; tests = us }) (ended h))) (append_assoc w.tests (t ∷ []) ts)
 
   more_pass : (ts : List Test) (w : Built) → w.names ≡ run 97 n → every (a_test n) ts ≡ true → length w.tests + length ts ≤ 4
-      → Passes (st (At (Tested h)) w) (typed_more h.name ts ++ codes "; ") (st (At Item) (with_act (with_tests w ts) (End h)))
+      → Passes (st (At (Tested h)) w) (typed_more h.name ts ++ codes "; ") (st (At Item) (with_act (with_tests w ts) (ended h)))
   unfolding typed_more every
   more_pass [] w e k l =
-      passes_to _ _ (ap (λ ts. st (At Item) (with_act (record { steps = w.steps; names = w.names; nevers = w.nevers; tests = ts }) (End h))) (sym (append-nil w.tests))) (end_tested w)
+      passes_to _ _ (ap (λ ts. st (At Item) (with_act (record { steps = w.steps; names = w.names; nevers = w.nevers; tests = ts }) (ended h))) (sym (append-nil w.tests))) (end_tested w)
   more_pass (t ∷ ts) w e k l =
       let both = and_parts (a_test n t) (every (a_test n) ts) k in
       let room : length (w.tests ++ (t ∷ [])) + length ts ≤ 4 = rw (length-append w.tests (t ∷ [])) (omega arith) in
@@ -92,10 +93,10 @@ module _ (h : Head) (n : ℕ) (own : Lettered h.name) (few : n ≤ 6) where
       (test_then t ts w _ e both.0 (passes_to _ _ (tests_joined w t ts) (more_pass ts (with_test w t) e both.1 room)))
 
   tests_pass : (ts : List Test) (w : Built) → w.names ≡ run 97 n → every (a_test n) ts ≡ true → length ts ≤ 4 → w.tests ≡ []
-      → Passes (st (At (Named h)) w) (typed_tests h.name ts ++ codes "; ") (st (At Item) (with_act (with_tests w ts) (End h)))
+      → Passes (st (At (Named h)) w) (typed_tests h.name ts ++ codes "; ") (st (At Item) (with_act (with_tests w ts) (ended h)))
   unfolding every
   tests_pass [] w e k l z =
-      passes_to _ _ (ap (λ ts. st (At Item) (with_act (record { steps = w.steps; names = w.names; nevers = w.nevers; tests = ts }) (End h))) (sym (append-nil w.tests))) (end_named w)
+      passes_to _ _ (ap (λ ts. st (At Item) (with_act (record { steps = w.steps; names = w.names; nevers = w.nevers; tests = ts }) (ended h))) (sym (append-nil w.tests))) (end_named w)
   tests_pass (t ∷ ts) w e k l z =
       let both = and_parts (a_test n t) (every (a_test n) ts) k in
       let none : length w.tests ≡ 0 = ap length z in
@@ -114,16 +115,16 @@ unfolding runs
 never_space k w = record { on = λ at rest. (at + 1, refl) }
 
 module _ (k n : ℕ) (w : Built) (ts : List Test) (kind : k < 65536) (names : w.names ≡ run 97 n) (may : every (a_test n) ts ≡ true) (most : length ts ≤ 4) (none : w.tests ≡ []) where
-  pub step_item : n < 6 → Passes (st (At Item) w) (typed_item k (step_letter n) ts) (st (At Item) (with_act (with_tests w ts) (End (record { never = false; kind = k; name = 97 + n }))))
+  pub step_item : n < 6 → Passes (st (At Item) w) (typed_item k (step_letter n) ts) (st (At Item) (with_act (with_tests w ts) (EndStep k (97 + n))))
   step_item l =
       let same : 97 + n ≡ step_letter n = omega arith in
-      let h : Head = record { never = false; kind = k; name = 97 + n } in
+      let h : Head = record { role = Step; kind = k; name = 97 + n } in
       let letter = lettered (97 + n) (omega arith) (omega arith) in
       let there : ltb (length w.names) 6 ≡ true = lt-ltb _ _ (rw names (rw (length_run 97 n) l)) in
       let new : step_named (97 + n) w.names ≡ None = rw names (not_found 0 97 n (97 + n) (omega arith)) in
       let is-letter = letter.letter in
       let slot : slot_of Item (length w.names) ≡ Some StepKind = rw there in
-      subst (λ own. Passes (st (At Item) w) (typed_item k own ts) (st (At Item) (with_act (with_tests w ts) (End h)))) same
+      subst (λ own. Passes (st (At Item) w) (typed_item k own ts) (st (At Item) (with_act (with_tests w ts) (ended h)))) same
       (
       then (decimal k) _ (pass_number Item StepKind w slot k kind (omega arith))
       (
@@ -135,9 +136,9 @@ module _ (k n : ℕ) (w : Built) (ts : List Test) (kind : k < 65536) (names : w.
       )
       )
 
-  pub never_item : n < 6 → Passes (st (At (Number NeverKind)) w) (typed_item k never_letter ts) (st (At Item) (with_act (with_tests w ts) (End (record { never = true; kind = k; name = never_letter }))))
+  pub never_item : n < 6 → Passes (st (At (Number NeverKind)) w) (typed_item k never_letter ts) (st (At Item) (with_act (with_tests w ts) (EndNever k)))
   never_item l =
-      let h : Head = record { never = true; kind = k; name = never_letter } in
+      let h : Head = record { role = Never; kind = k; name = never_letter } in
       let new : step_named never_letter w.names ≡ None = rw names (not_found 0 97 n never_letter (omega arith)) in
       then (decimal k) _ (pass_number (Number NeverKind) NeverKind w refl k kind (omega arith))
       (

@@ -2,9 +2,9 @@ pub mod Words
 pub mod Names
 pub mod Rules
 pub mod Expects
-pub mod Cells
 pub mod Rows
 pub mod Reading
+pub mod Sound
 pub mod Drafts
 pub mod Readers
 pub mod Laws

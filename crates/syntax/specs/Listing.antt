@@ -2,8 +2,8 @@
 -- Assumes nothing: these are definitions.
 use Rattle.std.specs.Prelude.{◌≡◌, ℕ, Ok, Err, vec_items, Result}
 use Rattle.std.specs.Global.{Vec}
-use Rattle.syntax.specs.declared.unread.Unread.{Unread}
-use Rattle.syntax.specs.declared.unread.Unread.TheVariants.{At, NoMemory}
+use Rattle.syntax.specs.declared.listing.Unread.{Unread}
+use Rattle.syntax.specs.declared.listing.Unread.TheVariants.{At, NoMemory}
 use Rattle.syntax.specs.Rows.{pattern_row}
 use Rattle.syntax.specs.Reading.{Reading, means, refused}
 

@@ -5,14 +5,13 @@ use Rattle.std.specs.Option.{option_map, option_to_list}
 use Rattle.timeline.specs.Lists.{pick}
 use Rattle.patterns.specs.Patterns.{Test, Never, Step, Pattern}
 use Rattle.patterns.specs.Codes.{field_number, sign_number}
-use Rattle.syntax.specs.declared.places.Head.{Head}
 use Rattle.syntax.specs.declared.places.Place.TheVariants.{Item, Number, StepName, NeverName, Named, Testing, Tested, LateWord, Whole}
 use Rattle.syntax.specs.declared.places.Stand.{Stand}
 use Rattle.syntax.specs.declared.places.Stand.TheVariants.{At, Rest, Digits}
 use Rattle.syntax.specs.declared.places.Comparison.{Comparison}
-use Rattle.syntax.specs.declared.places.Act.{Act}
-use Rattle.syntax.specs.declared.places.Act.TheVariants.{Nothing, Test as Adds, End as Ends}
-use Rattle.syntax.specs.declared.places.Move.{Move}
+use Rattle.syntax.specs.declared.moves.Act.{Act}
+use Rattle.syntax.specs.declared.moves.Act.TheVariants.{Nothing, Test as Adds, EndStep, EndNever}
+use Rattle.syntax.specs.declared.moves.Move.{Move}
 use Rattle.syntax.specs.declared.expects.Expected.{Expected}
 use Rattle.syntax.specs.Words.{digit}
 use Rattle.syntax.specs.Rules.{settle, steps_on}
@@ -31,14 +30,14 @@ pub record Built : Type 0 where
 abbrev pub test_of : Comparison → Test
 test_of t = record { what = field_number t.what; sign = sign_number t.sign; step = option_to_list t.step; other = t.other }
 
-abbrev pub with_never : Built → Head → Built
-with_never w h = record { steps = w.steps; names = w.names; nevers = w.nevers ++ (record { kind = h.kind; tests = w.tests } ∷ []); tests = [] }
+abbrev pub with_never : Built → ℕ → Built
+with_never w kind = record { steps = w.steps; names = w.names; nevers = w.nevers ++ (record { kind = kind; tests = w.tests } ∷ []); tests = [] }
 
-abbrev pub with_step : Built → Head → Built
-with_step w h =
+abbrev pub with_step : Built → ℕ → ℕ → Built
+with_step w kind name =
     record {
-      steps = w.steps ++ (record { kind = h.kind; tests = w.tests; never = w.nevers } ∷ []);
-      names = w.names ++ (h.name ∷ []);
+      steps = w.steps ++ (record { kind = kind; tests = w.tests; never = w.nevers } ∷ []);
+      names = w.names ++ (name ∷ []);
       nevers = [];
       tests = [];
     }
@@ -46,7 +45,8 @@ with_step w h =
 abbrev pub with_act : Built → Act → Built
 with_act w Nothing = w
 with_act w (Adds t) = record { steps = w.steps; names = w.names; nevers = w.nevers; tests = w.tests ++ (test_of t ∷ []) }
-with_act w (Ends h) = pick h.never (with_never w h) (with_step w h)
+with_act w (EndStep kind name) = with_step w kind name
+with_act w (EndNever kind) = with_never w kind
 
 -- A BYTE
 

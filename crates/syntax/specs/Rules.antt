@@ -8,6 +8,8 @@ use Rattle.patterns.specs.declared.fields.Sign.TheVariants.{Equal, Below, NotBel
 use Rattle.patterns.specs.Codes.{field_number}
 use Rattle.syntax.specs.declared.words.Word.{Word}
 use Rattle.syntax.specs.declared.words.Word.TheVariants.{Not, Where, And, Within, Late, Of, AtLeast}
+use Rattle.syntax.specs.declared.places.Role.{Role}
+use Rattle.syntax.specs.declared.places.Role.TheVariants.{Step, Never}
 use Rattle.syntax.specs.declared.places.Head.{Head}
 use Rattle.syntax.specs.declared.places.Slot.{Slot}
 use Rattle.syntax.specs.declared.places.Slot.TheVariants.{StepKind, NeverKind, Other, Window, Lateness}
@@ -18,8 +20,9 @@ use Rattle.syntax.specs.declared.places.Place.TheVariants.{Item, Number, StepNam
 use Rattle.syntax.specs.declared.places.Stand.{Stand}
 use Rattle.syntax.specs.declared.places.Stand.TheVariants.{At, Rest, Digits}
 use Rattle.syntax.specs.declared.places.Comparison.{Comparison}
-use Rattle.syntax.specs.declared.places.Act.TheVariants.{Nothing, Test, End}
-use Rattle.syntax.specs.declared.places.Move.{Move}
+use Rattle.syntax.specs.declared.moves.Act.{Act}
+use Rattle.syntax.specs.declared.moves.Act.TheVariants.{Nothing, Test, EndStep, EndNever}
+use Rattle.syntax.specs.declared.moves.Move.{Move}
 use Rattle.syntax.specs.Words.{white, digit, letter, spelling, field_begun}
 use Rattle.syntax.specs.Names.{step_named}
 
@@ -37,8 +40,16 @@ spells w p = goes (Rest w 1 p)
 abbrev pub adds : Comparison → Stand → Move
 adds t s = record { stand = s; act = Test t }
 
-abbrev pub ends : Head → Move
-ends h = record { stand = At Item; act = End h }
+abbrev pub ends : Act → Move
+ends a = record { stand = At Item; act = a }
+
+-- what the end of a step or a never adds
+abbrev pub ended_as : Role → ℕ → ℕ → Act
+ended_as Step k name = EndStep k name
+ended_as Never k name = EndNever k
+
+abbrev pub ended : Head → Act
+ended h = ended_as h.role h.kind h.name
 
 abbrev pub only_if : Bool → Move → Option Move
 only_if b m = pick b (Some m) None
@@ -102,9 +113,9 @@ begins_item steps nevers b =
     (pick (b == 119) (only_if (nat_lt 0 steps && nevers == 0) (spells Within (Number Window))) None)
 
 -- a name of its own is none that an earlier step has
-abbrev pub begins_name : Bool → ℕ → List ℕ → ℕ → Option Move
-begins_name never k names b =
-    only_if (letter b && not (is_some (step_named b names))) (goes (At (Named (record { never = never; kind = k; name = b }))))
+abbrev pub begins_name : Role → ℕ → List ℕ → ℕ → Option Move
+begins_name role k names b =
+    only_if (letter b && not (is_some (step_named b names))) (goes (At (Named (record { role = role; kind = k; name = b }))))
 
 abbrev pub begins_sign : Head → Field → ℕ → Option Move
 begins_sign h f b =
@@ -124,11 +135,11 @@ begins_part h (OtherField f s i) names b =
 abbrev pub begins : Place → List ℕ → ℕ → ℕ → ℕ → Option Move
 begins Item names nevers tests b = begins_item (length names) nevers b
 begins (Number n) names nevers tests b = None
-begins (StepName k) names nevers tests b = begins_name false k names b
-begins (NeverName k) names nevers tests b = pick (b == 59) (Some (ends (record { never = true; kind = k; name = 0 }))) (begins_name true k names b)
-begins (Named h) names nevers tests b = pick (b == 59) (Some (ends h)) (only_if (b == 119) (spells Where (Testing h Own)))
+begins (StepName k) names nevers tests b = begins_name Step k names b
+begins (NeverName k) names nevers tests b = pick (b == 59) (Some (ends (EndNever k))) (begins_name Never k names b)
+begins (Named h) names nevers tests b = pick (b == 59) (Some (ends (ended h))) (only_if (b == 119) (spells Where (Testing h Own)))
 begins (Testing h p) names nevers tests b = begins_part h p names b
-begins (Tested h) names nevers tests b = pick (b == 59) (Some (ends h)) (only_if (b == 97 && nat_lt tests 4) (spells And (Testing h Own)))
+begins (Tested h) names nevers tests b = pick (b == 59) (Some (ends (ended h))) (only_if (b == 97 && nat_lt tests 4) (spells And (Testing h Own)))
 begins (LateWord w) names nevers tests b = only_if (b == 108) (spells Late (Number (Lateness w)))
 begins (Whole w l) names nevers tests b = None
 

@@ -5,8 +5,8 @@ use Rattle.std.specs.declared.alloc.AllocError.{AllocError}
 use Rattle.std.specs.declared.alloc.Global.{Global}
 use Rattle.patterns.specs.Limits.{a_pattern}
 use Rattle.patterns.specs.Numbers.{pattern_in}
-use Rattle.syntax.specs.declared.unwritten.Unwritten.{Unwritten}
-use Rattle.syntax.specs.declared.unwritten.Unwritten.TheVariants.{NoPattern, NoMemory}
+use Rattle.syntax.specs.declared.writing.Unwritten.{Unwritten}
+use Rattle.syntax.specs.declared.writing.Unwritten.TheVariants.{NoPattern, NoMemory}
 use Rattle.syntax.specs.Typed.{typed}
 
 -- where it did not run out of memory, these bytes were put at the end

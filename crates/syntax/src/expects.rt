@@ -1,7 +1,8 @@
 // What could have stood where a text is refused, for messages.
-ghost use Rattle.std.specs.Prelude.{◌≡◌};
+ghost use Rattle.std.specs.Prelude.{◌≡◌, length};
 ghost use Rattle.syntax.specs.Expects.{expects_item, expects_number, expects_part, expects_at, expects};
 
+use crate::drafts::Draft;
 use crate::limits::{MOST_NEVERS, MOST_STEPS, MOST_TESTS};
 use crate::places::{Part, Place, Slot, Stand};
 use crate::words::Word;
@@ -38,9 +39,11 @@ pub enum Expected {
     RestOf(Word, usize),
 }
 
-fn at_item(steps: usize, nevers: usize) -> Expected
-    ensures { result ≡ expects_item steps nevers }
+fn at_item(draft: &Draft) -> Expected
+    ensures { result ≡ expects_item (length draft.now.names.items) (length draft.now.nevers.items) }
 {
+    let steps = draft.names.len();
+    let nevers = draft.nevers.len();
     if steps >= MOST_STEPS {
         Expected::Within
     } else if nevers >= MOST_NEVERS {
@@ -62,30 +65,30 @@ fn at_number(slot: Slot) -> Expected
     }
 }
 
-fn at_part(name: u8, part: Part, steps: usize) -> Expected
-    ensures { result ≡ expects_part name part steps }
+fn at_part(name: u8, part: Part, draft: &Draft) -> Expected
+    ensures { result ≡ expects_part name part (length draft.now.names.items) }
 {
     match part {
         Part::Own => Expected::OwnName(name),
         Part::OwnDot | Part::OtherDot(_, _, _) => Expected::Dot,
         Part::What | Part::OtherField(_, _, _) => Expected::Field,
         Part::How(_) => Expected::Sign,
-        Part::Against(_, _) if steps == 0 => Expected::OnlyNumber,
+        Part::Against(_, _) if draft.names.is_empty() => Expected::OnlyNumber,
         Part::Against(_, _) => Expected::NumberOrName,
     }
 }
 
-fn at_place(place: Place, steps: usize, nevers: usize, tests: usize) -> Expected
-    ensures { result ≡ expects_at place steps nevers tests }
+fn at_place(place: Place, draft: &Draft) -> Expected
+    ensures { result ≡ expects_at place (length draft.now.names.items) (length draft.now.nevers.items) (length draft.now.tests.items) }
 {
     match place {
-        Place::Item => at_item(steps, nevers),
+        Place::Item => at_item(draft),
         Place::Number(slot) => at_number(slot),
         Place::StepName(_) => Expected::Name,
         Place::NeverName(_) => Expected::NameOrEnd,
         Place::Named(_) => Expected::WhereOrEnd,
-        Place::Testing(head, part) => at_part(head.name, part, steps),
-        Place::Tested(_) if tests < MOST_TESTS => Expected::AndOrEnd,
+        Place::Testing(head, part) => at_part(head.name, part, draft),
+        Place::Tested(_) if draft.tests.len() < MOST_TESTS => Expected::AndOrEnd,
         Place::Tested(_) => Expected::End,
         Place::LateWord(_) => Expected::Late,
         Place::Whole(_, _) => Expected::Nothing,
@@ -93,12 +96,12 @@ fn at_place(place: Place, steps: usize, nevers: usize, tests: usize) -> Expected
 }
 
 impl Stand {
-    // By how many steps are whole, and how many nevers and tests there are.
-    pub fn expected(self, steps: usize, nevers: usize, tests: usize) -> Expected
-        ensures { result ≡ expects self steps nevers tests }
+    // By what is read so far.
+    pub fn expected(self, draft: &Draft) -> Expected
+        ensures { result ≡ expects self (length draft.now.names.items) (length draft.now.nevers.items) (length draft.now.tests.items) }
     {
         match self {
-            Stand::At(place) => at_place(place, steps, nevers, tests),
+            Stand::At(place) => at_place(place, draft),
             Stand::Rest(word, read, _) => Expected::RestOf(word, read),
             Stand::Digits(slot, _) => at_number(slot),
         }

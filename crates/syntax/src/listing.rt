@@ -1,37 +1,42 @@
 // A text read into a row of its own.
-ghost use Rattle.std.specs.Prelude.{◌≡◌, ◌≤◌, length, take, IfOk};
+ghost use Rattle.std.specs.Prelude.{◌≡◌};
+ghost use Rattle.syntax.specs.declared.listing.Unread.TheVariants.{At, NoMemory};
 ghost use Rattle.syntax.specs.Reading.{reads};
 ghost use Rattle.syntax.specs.Listing.{Listed};
 
-use crate::reading::read;
-use crate::refusals::Refusal;
-use crate::unread::Unread;
-use patterns::PATTERN_WORDS;
+use crate::expects::Expected;
+use crate::reading::{Stop, row_of};
 use std::alloc::{AllocError, Global};
 
-// So many numbers at the front of a row.
-fn front(heap: Global, row: &[u64], count: usize) -> Result<Vec<u64>, AllocError>
-    requires { count ≤ length row.now }
-    ensures { IfOk result (λ v. v.items ≡ take count row.now) }
-{
-    let (front, _) = row.split_at(count);
-    Vec::from_slice(heap, front)
+// Why a text gives no numbers.
+#[derive(Clone, Copy)]
+pub enum Unread {
+    // The byte with which no pattern goes on, or the end of a text that breaks off, and what could have stood there.
+    At(usize, Expected),
+    NoMemory,
+}
+
+impl From<Stop> for Unread {
+    ghost from_gives = { λ s e. e ≡ At s.at s.expected };
+
+    fn from(stop: Stop) -> Unread {
+        Unread::At(stop.at, stop.expected)
+    }
+}
+
+impl From<AllocError> for Unread {
+    ghost from_gives = { λ _ e. e ≡ NoMemory };
+
+    fn from(_error: AllocError) -> Unread {
+        Unread::NoMemory
+    }
 }
 
 // The numbers of the pattern that a text says.
 pub fn numbers(heap: Global, text: &[u8]) -> Result<Vec<u64>, Unread>
     ensures { Listed (reads text.now) result }
 {
-    let mut row = [0; PATTERN_WORDS];
-    match read(text, &mut row) {
-        Ok(count) => match front(heap, &row, count) {
-            Ok(numbers) => Ok(numbers),
-            Err(_) => Err(Unread::NoMemory),
-        },
-        Err(refusal) => match refusal {
-            Refusal::At(byte, expected) => Err(Unread::At(byte, expected)),
-            // No pattern has more numbers.
-            Refusal::Short(_needed) => unreachable(),
-        },
-    }
+    let row = row_of(text)?;
+    let numbers = Vec::from_slice(heap, row.as_slice())?;
+    Ok(numbers)
 }

@@ -1,9 +1,26 @@
-// Moves of a reader, by what they add.
+// Moves of a reader: where it stands next, and what it adds to the pattern that is read.
 ghost use Rattle.std.specs.Prelude.{◌≡◌};
-ghost use Rattle.syntax.specs.Rules.{goes, spells, adds, ends};
+ghost use Rattle.syntax.specs.Rules.{goes, spells, adds, ends, ended};
 
-use crate::places::{Act, Comparison, Head, Move, Place, Stand};
+use crate::places::{Comparison, Head, Place, Role, Stand};
 use crate::words::Word;
+
+// What is added to the pattern that is read.
+#[derive(Clone, Copy)]
+pub enum Act {
+    Nothing,
+    Test(Comparison),
+    // A step is whole: its kind, and its letter.
+    EndStep(u64, u8),
+    // A never is whole: its kind.
+    EndNever(u64),
+}
+
+#[derive(Clone, Copy)]
+pub struct Move {
+    pub stand: Stand,
+    pub act: Act,
+}
 
 impl Move {
     // Nothing is added.
@@ -24,12 +41,12 @@ impl Move {
     }
 
     // A step or a never is whole.
-    pub fn ending(head: Head) -> Move
-        ensures { result ≡ ends head }
+    pub fn ending(act: Act) -> Move
+        ensures { result ≡ ends act }
     {
         Move {
             stand: Stand::At(Place::Item),
-            act: Act::End(head),
+            act,
         }
     }
 
@@ -40,6 +57,18 @@ impl Move {
         Move {
             stand,
             act: Act::Test(test),
+        }
+    }
+}
+
+impl Head {
+    // What its end adds.
+    pub fn end(self) -> Act
+        ensures { result ≡ ended self }
+    {
+        match self.role {
+            Role::Step => Act::EndStep(self.kind, self.name),
+            Role::Never => Act::EndNever(self.kind),
         }
     }
 }

@@ -2,12 +2,18 @@
 use crate::words::Word;
 use patterns::{Field, Sign};
 
-// The beginning of a step or a never: what is typed of it before its tests.
+// What an item of a pattern is: each step stands behind the nevers that it must not come after.
+#[derive(Clone, Copy, PartialEq, Eq, Debug)]
+pub enum Role {
+    Step,
+    Never,
+}
+
+// The beginning of a step or a never that has a letter: what is typed of it before its tests.
 #[derive(Clone, Copy)]
 pub struct Head {
-    pub never: bool,
+    pub role: Role,
     pub kind: u64,
-    // Its letter; 0 of a never that has none.
     pub name: u8,
 }
 
@@ -73,18 +79,4 @@ pub struct Comparison {
     // The earlier step; none where it compares with a number.
     pub step: Option<u64>,
     pub other: u64,
-}
-
-// What is added to the pattern that is read.
-#[derive(Clone, Copy)]
-pub enum Act {
-    Nothing,
-    Test(Comparison),
-    End(Head),
-}
-
-#[derive(Clone, Copy)]
-pub struct Move {
-    pub stand: Stand,
-    pub act: Act,
 }

@@ -1,29 +1,29 @@
 // Names, words and marks: where a reader stands after the first byte of one. None: no pattern goes on with this byte.
-ghost use Rattle.std.specs.Prelude.{◌≡◌, ◌==◌};
+ghost use Rattle.std.specs.Prelude.{◌≡◌, ◌==◌, length};
 ghost use Rattle.syntax.specs.Names.{step_named};
 ghost use Rattle.syntax.specs.declared.places.Stand.TheVariants.{At};
 ghost use Rattle.syntax.specs.Rules.{goes, only_if, begins_item, begins_name, begins_sign, begins_part, begins};
 
+use crate::drafts::Draft;
 use crate::limits::{MOST_NEVERS, MOST_STEPS, MOST_TESTS};
-use crate::places::{Comparison, Head, Move, Part, Place, Slot, Stand};
-use crate::words::{Word, field_begun, field_code, is_letter};
+use crate::moves::{Act, Move};
+use crate::places::{Comparison, Head, Part, Place, Role, Slot, Stand};
+use crate::words::{Word, field_begun, field_code};
 use patterns::{Field, Sign};
 
 // The step that has a letter.
-fn step_named(letter: u8, names: &[u64]) -> Option<u64>
+fn step_named(letter: u8, names: &[u8]) -> Option<u64>
     ensures { result ≡ step_named letter names.now }
 {
-    for i in 0..names.len() {
-        if names[i] == letter as u64 {
-            return Some(i as u64);
-        }
-    }
-    None
+    let step = names.iter().position(|name| *name == letter)?;
+    Some(step as u64)
 }
 
-fn begin_item(steps: usize, nevers: usize, byte: u8) -> Option<Move>
-    ensures { result ≡ begins_item steps nevers byte }
+fn begin_item(draft: &Draft, byte: u8) -> Option<Move>
+    ensures { result ≡ begins_item (length draft.now.names.items) (length draft.now.nevers.items) byte }
 {
+    let steps = draft.names.len();
+    let nevers = draft.nevers.len();
     match byte {
         b'n' if steps < MOST_STEPS && nevers < MOST_NEVERS => {
             Some(Move::spelling(Word::Not, Place::Number(Slot::NeverKind)))
@@ -36,14 +36,14 @@ fn begin_item(steps: usize, nevers: usize, byte: u8) -> Option<Move>
 }
 
 // A name of its own is none that an earlier step has.
-fn begin_name(never: bool, kind: u64, names: &[u64], byte: u8) -> Option<Move>
-    ensures { result ≡ begins_name never kind names.now byte }
+fn begin_name(role: Role, kind: u64, names: &[u8], byte: u8) -> Option<Move>
+    ensures { result ≡ begins_name role kind names.now byte }
 {
-    if !is_letter(byte) || step_named(byte, names).is_some() {
+    if !byte.is_ascii_lowercase() || step_named(byte, names).is_some() {
         return None;
     }
     let head = Head {
-        never,
+        role,
         kind,
         name: byte,
     };
@@ -74,7 +74,7 @@ fn begin_dot(place: Place, byte: u8) -> Option<Move>
     }
 }
 
-fn begin_part(head: Head, part: Part, names: &[u64], byte: u8) -> Option<Move>
+fn begin_part(head: Head, part: Part, names: &[u8], byte: u8) -> Option<Move>
     ensures { result ≡ begins_part head part names.now byte }
 {
     match part {
@@ -83,66 +83,56 @@ fn begin_part(head: Head, part: Part, names: &[u64], byte: u8) -> Option<Move>
         }
         Part::Own => None,
         Part::OwnDot => begin_dot(Place::Testing(head, Part::What), byte),
-        Part::What => match field_begun(byte) {
-            Some(what) => Some(Move::spelling(
-                Word::Of(what),
-                Place::Testing(head, Part::How(what)),
-            )),
-            None => None,
-        },
+        Part::What => {
+            let what = field_begun(byte)?;
+            let next = Place::Testing(head, Part::How(what));
+            Some(Move::spelling(Word::Of(what), next))
+        }
         Part::How(what) => begin_sign(head, what, byte),
-        Part::Against(what, sign) => match step_named(byte, names) {
-            Some(step) => Some(Move::to(Stand::At(Place::Testing(
-                head,
-                Part::OtherDot(what, sign, step),
-            )))),
-            None => None,
-        },
+        Part::Against(what, sign) => {
+            let step = step_named(byte, names)?;
+            let next = Place::Testing(head, Part::OtherDot(what, sign, step));
+            Some(Move::to(Stand::At(next)))
+        }
         Part::OtherDot(what, sign, step) => {
             begin_dot(
                 Place::Testing(head, Part::OtherField(what, sign, step)),
                 byte,
             )
         }
-        Part::OtherField(what, sign, step) => match field_begun(byte) {
-            Some(field) => {
-                let test = Comparison {
-                    what,
-                    sign,
-                    step: Some(step),
-                    other: field_code(field),
-                };
-                let stand = Stand::Rest(Word::Of(field), 1, Place::Tested(head));
-                Some(Move::adding(test, stand))
-            }
-            None => None,
-        },
+        Part::OtherField(what, sign, step) => {
+            let field = field_begun(byte)?;
+            let test = Comparison {
+                what,
+                sign,
+                step: Some(step),
+                other: field_code(field),
+            };
+            let stand = Stand::Rest(Word::Of(field), 1, Place::Tested(head));
+            Some(Move::adding(test, stand))
+        }
     }
 }
 
-// By the names of the steps that are whole, and by how many nevers and tests there are.
-pub fn begin(place: Place, names: &[u64], nevers: usize, tests: usize, byte: u8) -> Option<Move>
-    ensures { result ≡ begins place names.now nevers tests byte }
+// By what is read so far.
+pub fn begin(place: Place, draft: &Draft, byte: u8) -> Option<Move>
+    ensures { result ≡ begins place draft.now.names.items (length draft.now.nevers.items) (length draft.now.tests.items) byte }
 {
+    let names = draft.names.as_slice();
     match place {
-        Place::Item => begin_item(names.len(), nevers, byte),
-        Place::StepName(kind) => begin_name(false, kind, names, byte),
-        Place::NeverName(kind) if byte == b';' => Some(Move::ending(Head {
-            never: true,
-            kind,
-            name: 0,
-        })),
-        Place::NeverName(kind) => begin_name(true, kind, names, byte),
-        Place::Named(head) | Place::Tested(head) if byte == b';' => Some(Move::ending(head)),
+        Place::Item => begin_item(draft, byte),
+        Place::StepName(kind) => begin_name(Role::Step, kind, names, byte),
+        Place::NeverName(kind) if byte == b';' => Some(Move::ending(Act::EndNever(kind))),
+        Place::NeverName(kind) => begin_name(Role::Never, kind, names, byte),
+        Place::Named(head) | Place::Tested(head) if byte == b';' => Some(Move::ending(head.end())),
         Place::Named(head) if byte == b'w' => Some(Move::spelling(
             Word::Where,
             Place::Testing(head, Part::Own),
         )),
         Place::Testing(head, part) => begin_part(head, part, names, byte),
-        Place::Tested(head) if byte == b'a' && tests < MOST_TESTS => Some(Move::spelling(
-            Word::And,
-            Place::Testing(head, Part::Own),
-        )),
+        Place::Tested(head) if byte == b'a' && draft.tests.len() < MOST_TESTS => Some(
+            Move::spelling(Word::And, Place::Testing(head, Part::Own)),
+        ),
         Place::LateWord(window) if byte == b'l' => Some(Move::spelling(
             Word::Late,
             Place::Number(Slot::Lateness(window)),

@@ -4,7 +4,8 @@ ghost use Rattle.syntax.specs.Words.{digit};
 ghost use Rattle.syntax.specs.Rules.{slot_of, limit, counted, numbered};
 
 use crate::limits::{KINDS, MOST_STEPS, NUMBERS, TIMES};
-use crate::places::{Comparison, Move, Part, Place, Slot, Stand};
+use crate::moves::Move;
+use crate::places::{Comparison, Part, Place, Slot, Stand};
 
 impl Slot {
     // Its numbers are below this.
@@ -12,11 +13,9 @@ impl Slot {
         ensures { result ≡ limit self }
     {
         match self {
-            Slot::StepKind => KINDS,
-            Slot::NeverKind => KINDS,
+            Slot::StepKind | Slot::NeverKind => KINDS,
             Slot::Other(_, _, _) => NUMBERS,
-            Slot::Window => TIMES,
-            Slot::Lateness(_) => TIMES,
+            Slot::Window | Slot::Lateness(_) => TIMES,
         }
     }
 

@@ -1,8 +1,11 @@
 // One byte of a text: where a reader stands after it.
-ghost use Rattle.std.specs.Prelude.{◌≡◌, ◌<◌};
+ghost use Rattle.std.specs.Prelude.{◌≡◌, length};
+ghost use Rattle.syntax.specs.Reading.{whole};
 ghost use Rattle.syntax.specs.Rules.{settle, spelled, steps_on};
 
-use crate::places::{Move, Place, Stand};
+use crate::drafts::Draft;
+use crate::moves::Move;
+use crate::places::{Place, Stand};
 use crate::rules::begin;
 use crate::words::{Word, is_digit, is_white};
 
@@ -28,26 +31,32 @@ impl Stand {
         }
     }
 
-    // By the names of the steps that are whole, and by how many nevers and tests there are.
-    pub fn step(self, names: &[u64], nevers: usize, tests: usize, byte: u8) -> Option<Move>
-        ensures { result ≡ steps_on self names.now nevers tests byte }
+    // By what is read so far.
+    pub fn step(self, draft: &Draft, byte: u8) -> Option<Move>
+        ensures { result ≡ steps_on self draft.now.names.items (length draft.now.nevers.items) (length draft.now.tests.items) byte }
     {
         match self {
-            Stand::At(place) if is_digit(byte) => match place.slot(names.len()) {
-                Some(slot) => slot.counted(0, byte),
-                None => None,
-            },
+            Stand::At(place) if is_digit(byte) => place.slot(draft.names.len())?.counted(0, byte),
             Stand::At(place) if is_white(byte) => Some(Move::to(self)),
-            Stand::At(place) => begin(place, names, nevers, tests, byte),
+            Stand::At(place) => begin(place, draft, byte),
             Stand::Rest(word, read, place) => {
-                let letters = word.letters();
-                if read >= letters.len() || letters[read] != byte {
+                if word.letters().get(read) != Some(&byte) {
                     return None;
                 }
                 Some(Move::to(Stand::spelled(word, read + 1, place)))
             }
             Stand::Digits(slot, value) if is_digit(byte) => slot.counted(value, byte),
             Stand::Digits(_, _) => None,
+        }
+    }
+
+    // The window and the lateness, where nothing is awaited any more.
+    pub fn whole(self) -> Option<(u64, u64)>
+        ensures { result ≡ whole self }
+    {
+        match self {
+            Stand::At(Place::Whole(within, late)) => Some((within, late)),
+            _ => None,
         }
     }
 }

@@ -1,6 +1,6 @@
 // The words and marks of a typed pattern, and which bytes are white, digits and letters.
 ghost use Rattle.std.specs.Prelude.{◌≡◌, ◌<◌};
-ghost use Rattle.syntax.specs.Words.{white, digit, letter, spelling, field_begun};
+ghost use Rattle.syntax.specs.Words.{white, digit, spelling, field_begun};
 ghost use Rattle.patterns.specs.Codes.{field_number, sign_number};
 
 use patterns::{Field, Sign};
@@ -46,19 +46,13 @@ impl Word {
 pub fn is_white(byte: u8) -> bool
     ensures { result ≡ white byte }
 {
-    byte == b' ' || byte == b'\t' || byte == b'\n' || byte == b'\r'
+    matches!(byte, b' ' | b'\t' | b'\n' | b'\r')
 }
 
 pub fn is_digit(byte: u8) -> bool
     ensures { result ≡ digit byte }
 {
-    byte >= b'0' && byte <= b'9'
-}
-
-pub fn is_letter(byte: u8) -> bool
-    ensures { result ≡ letter byte }
-{
-    byte >= b'a' && byte <= b'z'
+    byte.is_ascii_digit()
 }
 
 // The field whose word begins with a byte.

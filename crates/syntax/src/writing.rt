@@ -2,6 +2,7 @@
 ghost use Rattle.std.specs.Prelude.{◌≡◌, ◌+◌, ◌<◌, ◌≤◌, IfOk, string_bytes};
 ghost use Rattle.timeline.specs.Lists.{flat};
 ghost use Rattle.patterns.specs.Kept.{at_most, kept_tests, kept_never, kept_nevers, kept_step, kept_pattern};
+ghost use Rattle.syntax.specs.declared.writing.Unwritten.TheVariants.{NoPattern, NoMemory};
 ghost use Rattle.syntax.specs.Typed.{joint, typed_tests, typed_item, typed_never, typed_step, typed_steps, typed};
 ghost use Rattle.syntax.specs.Writing.{Puts, Writes};
 
@@ -10,9 +11,32 @@ use crate::limits::{
     STEPS_AT, TEST_WORDS, WITHIN_AT,
 };
 use crate::putting::{letter_of, put_letter, put_number, put_test};
-use crate::unwritten::Unwritten;
 use patterns::{PATTERN_WORDS, keep};
 use std::alloc::{AllocError, Global};
+
+// Why a row is not written.
+#[derive(Clone, Copy, PartialEq, Eq, Debug)]
+pub enum Unwritten {
+    // It says no pattern that may be.
+    NoPattern,
+    NoMemory,
+}
+
+impl From<patterns::Refusal> for Unwritten {
+    ghost from_gives = { λ _ e. e ≡ NoPattern };
+
+    fn from(_refusal: patterns::Refusal) -> Unwritten {
+        Unwritten::NoPattern
+    }
+}
+
+impl From<AllocError> for Unwritten {
+    ghost from_gives = { λ _ e. e ≡ NoMemory };
+
+    fn from(_error: AllocError) -> Unwritten {
+        Unwritten::NoMemory
+    }
+}
 
 // The letter of every never.
 const NEVER_LETTER: u8 = b'x';
@@ -151,11 +175,7 @@ pub fn write(heap: Global, row: &[u64]) -> Result<String, Unwritten>
     ensures { Writes row.now result }
 {
     let mut words = [0; PATTERN_WORDS];
-    if keep(row, &mut words).is_err() {
-        return Err(Unwritten::NoPattern);
-    }
-    match text_of(heap, &words) {
-        Ok(text) => Ok(text),
-        Err(_) => Err(Unwritten::NoMemory),
-    }
+    keep(row, &mut words)?;
+    let text = text_of(heap, &words)?;
+    Ok(text)
 }

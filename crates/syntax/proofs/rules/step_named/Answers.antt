@@ -1,12 +1,21 @@
-use Rattle.std.proofs.Common.{sym, ◌∙◌}
-use Rattle.syntax.proofs.Looking.{here, later, none}
+use Rattle.std.proofs.Common.{◌≡◌, ◌==◌, List, Option, ℕ, sym, ◌∙◌, rules, tests}
+use Rattle.std.specs.List.{position_from}
+use Rattle.std.proofs.lemmas.Iterator.{YieldsList-from_slice}
+use Rattle.std.proofs.lemmas.Iterator.Search.{position_from_yields_List}
+use Rattle.std.proofs.lemmas.Iterator.Adapters.{position_from-zero}
+use Rattle.syntax.specs.Names.{step_named}
 use Rattle.syntax.proofs.rules.step_named.Goals as goal
 
-pub returns-then-names-i : goal.returns-then-names-i
-returns-then-names-i c = sym (here c.args.letter c.loop-i.i c.args.names.now c.loop-i-test.true c.if-names-i.true) ∙ c.loop-i.invariant
-
-pub loop-i-preserved : goal.loop-i-preserved
-loop-i-preserved c = sym (later c.args.letter c.loop-i.i c.args.names.now c.loop-i-test.true c.if-names-i.false) ∙ c.loop-i.invariant
-
 pub returns : goal.returns
-returns c = sym (none c.args.letter c.loop-i.i c.args.names.now c.loop-i-test.false) ∙ c.loop-i.invariant
+returns c =
+    let b = c.args.letter in
+    let xs = c.args.names.now in
+    let at = position_from_yields_List (λ x. x == b) _ _ c.position.result c.position.ensures.ran (YieldsList-from_slice xs cc) (λ x r q k. search (rules, tests)) in
+    sym c.in_ok-step.was ∙ at ∙ position_from-zero (λ x. x == b) xs
+
+pub returns-in_err-step : goal.returns-in_err-step
+returns-in_err-step c =
+    let b = c.args.letter in
+    let xs = c.args.names.now in
+    let at = position_from_yields_List (λ x. x == b) _ _ c.position.result c.position.ensures.ran (YieldsList-from_slice xs cc) (λ x r q k. search (rules, tests)) in
+    c.from_residual.ensures ∙ sym c.in_err-step.was ∙ at ∙ position_from-zero (λ x. x == b) xs

@@ -1,27 +1,27 @@
-use Rattle.std.proofs.Common.{[], ◌∷◌, ◌++◌, length, refl, ap, ◌∙◌}
-use Rattle.timeline.specs.Lists.{flat}
+use Rattle.std.proofs.Common.{[], ◌∷◌, ◌++◌, length, sym, ap, ◌∙◌}
+use Rattle.std.specs.List.{flat_map}
+use Rattle.timeline.specs.Lists.{each, flat}
 use Rattle.patterns.specs.Kept.{test_cells}
 use Rattle.syntax.specs.Rows.{never_row}
-use Rattle.syntax.proofs.Growing.{holds_more, holds_as, holds_empty, length_push, never_grows}
+use Rattle.syntax.proofs.Growing.{each_push, flattened, length_each}
 use Rattle.syntax.proofs.drafts.Draft.end_never.Goals as goal
 
 pub returns : goal.returns
+unfolding each
 returns c =
     λ w h.
     let d = c.args.self.now in
-    let k = c.args.head.kind in
-    let one = holds_more d.nevers c.append.new.self _ (k ∷ d.test_count ∷ []) h.nevers c.append.ensures.value c.append.ensures.len in
-    let two = holds_more c.append.new.self c.append-2.new.self _ c.held.result.now one c.append-2.ensures.value c.append-2.ensures.len in
-    let tests = c.held.ensures.value ∙ h.tests.0 in
+    let k = c.args.kind in
+    let count = c.len.ensures.value ∙ ap length h.tests ∙ length_each test_cells w.tests in
+    let tests = c.as_flattened.ensures.value ∙ ap (flat_map (λ x. x)) (c.as_slice.ensures.value ∙ h.tests) ∙ flattened test_cells w.tests in
+    let never =
+    c.put-2.ensures ∙ ap (λ xs. xs ++ c.as_flattened.result.now) (c.put.ensures ∙ ap (λ xs. xs ++ (k ∷ c.len.result ∷ [])) c.new-never.ensures)
+    ∙ ap (λ n. k ∷ n ∷ c.as_flattened.result.now) count ∙ ap (λ xs. k ∷ length w.tests ∷ xs) tests in
     record {
       steps = h.steps;
       names = h.names;
       nevers =
-          holds_as c.append-2.new.self _ _ (
-          ap (λ n. (flat never_row w.nevers ++ (k ∷ n ∷ [])) ++ c.held.result.now) h.test_count
-          ∙ ap (λ ys. (flat never_row w.nevers ++ (k ∷ length w.tests ∷ [])) ++ ys) tests ∙ never_grows w.nevers k w.tests
-          ) two;
-      never_count = length_push _ _ _ h.never_count;
-      tests = holds_empty test_cells c.clear.new.self c.clear.ensures;
-      test_count = refl;
+          ap (each (λ v. v.items)) c.push.ensures.items ∙ each_push (λ v. v.items) d.nevers.items c.put-2.new.row ∙ ap (λ xs. xs ++ (c.put-2.new.row.items ∷ [])) h.nevers
+          ∙ ap (λ row. each never_row w.nevers ++ (row ∷ [])) never ∙ sym (each_push never_row w.nevers (record { kind = k; tests = w.tests }));
+      tests = c.clear.ensures;
     }

@@ -1,8 +1,10 @@
 -- What holds of a reader wherever it stands: what is read so far may be in a pattern, and there is room for what may come next.
-use Rattle.std.proofs.Common.{◌≡◌, ◌<◌, ◌≤◌, true, length, Some, None, Option}
+use Rattle.std.specs.Prelude.{◌≡◌, ℕ, ◌<◌, ◌≤◌, true, length, Some, None, Option}
 use Rattle.timeline.specs.Lists.{every}
 use Rattle.patterns.specs.Limits.{a_test, some_steps}
 use Rattle.patterns.specs.Reading.{a_never}
+use Rattle.syntax.specs.declared.places.Role.{Role}
+use Rattle.syntax.specs.declared.places.Role.TheVariants.{Step, Never}
 use Rattle.syntax.specs.declared.places.Head.{Head}
 use Rattle.syntax.specs.declared.places.Slot.{Slot}
 use Rattle.syntax.specs.declared.places.Slot.TheVariants.{StepKind, NeverKind, Other, Window, Lateness}
@@ -12,9 +14,9 @@ use Rattle.syntax.specs.declared.places.Place.{Place}
 use Rattle.syntax.specs.declared.places.Place.TheVariants.{Item, Number, StepName, NeverName, Named, Testing, Tested, LateWord, Whole}
 use Rattle.syntax.specs.declared.places.Stand.{Stand}
 use Rattle.syntax.specs.declared.places.Stand.TheVariants.{At, Rest, Digits}
-use Rattle.syntax.specs.declared.places.Act.{Act}
-use Rattle.syntax.specs.declared.places.Act.TheVariants.{Nothing, Test, End}
-use Rattle.syntax.specs.declared.places.Move.{Move}
+use Rattle.syntax.specs.declared.moves.Act.{Act}
+use Rattle.syntax.specs.declared.moves.Act.TheVariants.{Nothing, Test, EndStep, EndNever}
+use Rattle.syntax.specs.declared.moves.Move.{Move}
 use Rattle.syntax.specs.Words.{letter, spelling}
 use Rattle.syntax.specs.Rules.{limit}
 use Rattle.syntax.specs.Reading.{Built, State, test_of, with_act}
@@ -29,11 +31,16 @@ pub record Fine (w : Built) : Type 0 where
   pub tests : every (a_test (length w.steps)) w.tests ≡ true
   pub tests_few : length w.tests ≤ 4
 
+-- a never is among two at most
+abbrev pub FineRole : Role → ℕ → Type 0
+FineRole Step nevers = Unit {0}
+FineRole Never nevers = nevers < 2
+
 -- a step or a never that is under way may be, and there is room for it
 pub record FineHead (h : Head) (w : Built) : Type 0 where
   pub kind : h.kind < 65536
   pub steps : length w.names < 6
-  pub nevers : h.never ≡ true → length w.nevers < 2
+  pub nevers : FineRole h.role (length w.nevers)
 
 abbrev pub FineSlot : Slot → Built → Type 0
 FineSlot StepKind w = (length w.names < 6) × (length w.tests ≡ 0)
@@ -71,7 +78,8 @@ FineStand (Digits n v) w = FineSlot n w × (v < limit n)
 abbrev pub FineAct : Act → Built → Type 0
 FineAct Nothing w = Unit {0}
 FineAct (Test t) w = (length w.tests < 4) × (a_test (length w.steps) (test_of t) ≡ true)
-FineAct (End h) w = FineHead h w
+FineAct (EndStep k name) w = (k < 65536) × (length w.names < 6)
+FineAct (EndNever k) w = (k < 65536) × (length w.names < 6) × (length w.nevers < 2)
 
 pub record FineMove (w : Built) (m : Move) : Type 0 where
   pub act : FineAct m.act w
