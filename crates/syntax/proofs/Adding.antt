@@ -1,5 +1,5 @@
 -- What is added to what is read is fine.
-use Rattle.std.proofs.Common.{◌≡◌, ℕ, suc, ◌+◌, ◌<◌, Bool, true, false, List, [], ◌∷◌, ◌++◌, length, refl, arith, length-append}
+use Rattle.std.proofs.Common.{◌≡◌, ℕ, suc, ◌+◌, ◌<◌, Bool, true, List, [], ◌∷◌, ◌++◌, length, refl, arith, length-append}
 use Rattle.std.proofs.lemmas.Bool.{and_parts, and_from, lt-ltb, le-leb}
 use Rattle.timeline.specs.Lists.{every}
 use Rattle.patterns.specs.Patterns.{Step}
@@ -8,7 +8,8 @@ use Rattle.patterns.specs.Reading.{a_never}
 use Rattle.syntax.specs.declared.moves.Act.{Act}
 use Rattle.syntax.specs.declared.moves.Act.TheVariants.{Nothing, Test, EndStep, EndNever}
 use Rattle.syntax.specs.declared.moves.Move.{Move}
-use Rattle.syntax.specs.Reading.{Built, test_of, with_never, with_step, with_act, moved}
+use Rattle.patterns.specs.Codes.{test_of}
+use Rattle.syntax.specs.Reading.{Built, with_never, with_step, with_act, moved}
 use Rattle.syntax.specs.Sound.{Fine, FineAct, FineMove, Sound}
 
 every_push : {A : Type 0} (f : A → Bool) (xs : List A) (x : A) → every f xs ≡ true → f x ≡ true → every f (xs ++ (x ∷ [])) ≡ true

@@ -1,4 +1,3 @@
-mod Looking
 mod Growing
 mod Adding
 mod Moving
@@ -12,8 +11,9 @@ mod Letters
 mod TypedTests
 mod TypedItems
 mod TypedWhole
-mod Texts
 mod Free
 mod Endings
 mod Living
 mod Stopping
+mod Parts
+mod Texts

@@ -16,7 +16,7 @@ use Rattle.syntax.specs.declared.places.Place.{Place}
 use Rattle.syntax.specs.declared.places.Place.TheVariants.{Item, Number, StepName, NeverName, Named, Testing, Tested, LateWord, Whole}
 use Rattle.syntax.specs.declared.places.Stand.{Stand}
 use Rattle.syntax.specs.declared.places.Stand.TheVariants.{At, Rest, Digits}
-use Rattle.syntax.specs.declared.places.Comparison.{Comparison}
+use Rattle.patterns.specs.declared.comparing.Comparison.{Comparison}
 use Rattle.syntax.specs.declared.moves.Act.TheVariants.{Test}
 use Rattle.syntax.specs.Words.{letter, digit, spelling}
 use Rattle.syntax.specs.Rules.{goes, ended, spelled}

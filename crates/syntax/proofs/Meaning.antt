@@ -1,6 +1,5 @@
 -- What a text reads as is a pattern that may be.
-use Rattle.std.proofs.Common.{◌≡◌, ℕ, ◌+◌, ◌≤◌, true, List, [], ◌∷◌, length, take, drop, IfOk, Some, None, Ok, Err, Option, Result, sym, refl, ap, ◌∙◌, arith}
-use Rattle.std.proofs.lemmas.List.{take_at}
+use Rattle.std.proofs.Common.{◌≡◌, ℕ, ◌+◌, ◌≤◌, true, List, [], ◌∷◌, length, Some, None, Ok, Option, refl, ap, ◌∙◌, arith}
 use Rattle.std.proofs.lemmas.Bool.{and_from, lt-ltb, le-leb}
 use Rattle.patterns.specs.Patterns.{Pattern}
 use Rattle.patterns.specs.Limits.{a_pattern}
@@ -8,7 +7,6 @@ use Rattle.patterns.specs.Numbers.{pattern_in}
 use Rattle.syntax.specs.declared.places.Place.TheVariants.{Item, Number, StepName, NeverName, Named, Testing, Tested, LateWord, Whole}
 use Rattle.syntax.specs.declared.places.Stand.{Stand}
 use Rattle.syntax.specs.declared.places.Stand.TheVariants.{At, Rest, Digits}
-use Rattle.syntax.specs.declared.reading.Refusal.{Refusal}
 use Rattle.syntax.specs.declared.expects.Expected.{Expected}
 use Rattle.syntax.specs.Reading.{Built, State, Reading, means, refused, settled, ready, next, wanted, whole, by_some, runs, begun, reads}
 use Rattle.syntax.specs.Rows.{pattern_row}

@@ -12,7 +12,6 @@ use Rattle.syntax.specs.Rules.{settle, steps_on}
 use Rattle.syntax.specs.Reading.{State, Reading, means, refused, moved, settled, ready, next, wanted, whole, by_some, ended, runs, begun}
 use Rattle.syntax.specs.Expects.{expects}
 use Rattle.syntax.specs.declared.readers.Reader.{Reader}
-use Rattle.syntax.specs.declared.reading.Stop.{Stop}
 use Rattle.syntax.specs.Rows.{pattern_row}
 use Rattle.syntax.specs.Readers.{Stands, Rowed}
 use Rattle.syntax.specs.Sound.{Fits, Sound}

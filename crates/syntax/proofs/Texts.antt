@@ -1,84 +1,83 @@
--- Texts put at the end of a text, one after the other.
-use Rattle.std.proofs.Common.{◌≡◌, ℕ, zero, suc, ◌+◌, ◌-◌, ◌<◌, ◌≤◌, cond, List, [], ◌∷◌, ◌++◌, take, is_ok, Ok, Err, Result, sym, refl, ap, ◌∙◌, append_assoc, append-nil, add-one, arith}
-use Rattle.std.specs.declared.alloc.AllocError.{AllocError}
-use Rattle.timeline.specs.Lists.{each, flat, run}
+-- Parts written in a loop, one after the other.
+use Rattle.std.proofs.Common.{◌≡◌, ℕ, zero, suc, ◌+◌, List, [], ◌∷◌, ◌++◌, Bool, true, false, eqb, slice_get, sym, refl, ap, ◌∙◌, append_assoc, add-one, arith}
+use Rattle.std.specs.Option.{option_to_list}
+use Rattle.timeline.specs.Lists.{pick, each, flat, run}
+use Rattle.patterns.specs.declared.fields.Field.TheVariants.{Who, Value, Time}
+use Rattle.patterns.specs.declared.fields.Sign.TheVariants.{Equal, Below, NotBelow}
 use Rattle.patterns.specs.Patterns.{Test, Never, Step}
-use Rattle.syntax.specs.Typed.{joint, typed_test, typed_more, typed_tests, typed_never, typed_step, typed_steps}
-use Rattle.syntax.specs.Writing.{Puts}
+use Rattle.patterns.specs.Codes.{field_number, field_numbered, sign_number, sign_numbered}
+use Rattle.patterns.specs.Codes.{test_of, comparison}
+use Rattle.syntax.specs.Typed.{joint, typed_other, typed_test, typed_more, typed_tests, typed_never, typed_step, typed_steps}
+use Rattle.syntax.proofs.Growing.{flat_push}
+use Rattle.syntax.proofs.Letters.{run_push}
 
-pub puts_after : (xs ys before mid after : List ℕ) (r : Result (Unit {0}) AllocError) → mid ≡ before ++ xs → Puts ys mid after r → Puts (xs ++ ys) before after r
-puts_after xs ys before mid after (Ok u) e h = h ∙ ap (λ zs. zs ++ ys) e ∙ append_assoc before xs ys
-puts_after xs ys before mid after (Err a) e h = tt
+-- the parts in front of the i-th
+abbrev pub so_far : {A : Type 0} → (ℕ → A → List ℕ) → (ℕ → A) → ℕ → List ℕ
+so_far part g i = flat (λ j. part j (g j)) (run 0 i)
 
--- PARTS IN A LOOP: what is put, and the text of the parts that are left, give the whole
+pub so_far_none : {A : Type 0} (part : ℕ → A → List ℕ) (g : ℕ → A) → so_far part g 0 ≡ []
+unfolding flat run
+so_far_none part g = refl
+
+pub so_far_more : {A : Type 0} (part : ℕ → A → List ℕ) (g : ℕ → A) (i : ℕ) → so_far part g (i + 1) ≡ so_far part g i ++ part i (g i)
+so_far_more part g i =
+    let e : 0 + i ≡ i = omega arith in
+    ap (λ n. flat (λ j. part j (g j)) (run 0 n)) (add-one i) ∙ ap (flat (λ j. part j (g j))) (sym (run_push 0 i)) ∙ flat_push (λ j. part j (g j)) (run 0 i) (0 + i)
+    ∙ ap (λ j. so_far part g i ++ part j (g j)) e
 
 module _ {A : Type 0} (whole_of : ℕ → List A → List ℕ) (part : ℕ → A → List ℕ) (none : (i : ℕ) → whole_of i [] ≡ [])
-    (more : (i : ℕ) (x : A) (xs : List A) → whole_of i (x ∷ xs) ≡ part i x ++ whole_of (i + 1) xs) (g : ℕ → A) (m i : ℕ) where
-  pub left_turn : (text new whole : List ℕ) → i < m → new ≡ text ++ part i (g i) → text ++ whole_of i (each g (run i (m - i))) ≡ whole
-      → new ++ whole_of (i + 1) (each g (run (i + 1) (m - (i + 1)))) ≡ whole
-  unfolding each run
-  left_turn text new whole l e h =
-      let d : m - i ≡ suc (m - (i + 1)) = omega arith in
-      let rest = each g (run (i + 1) (m - (i + 1))) in
-      let these : each g (run i (m - i)) ≡ g i ∷ rest = rw (d, add-one) in
-      ap (λ xs. xs ++ whole_of (i + 1) rest) e ∙ append_assoc text (part i (g i)) (whole_of (i + 1) rest) ∙ ap (λ xs. text ++ xs) (sym (more i (g i) rest))
-      ∙ ap (λ xs. text ++ whole_of i xs) (sym these) ∙ h
-
-  pub left_end : (text whole : List ℕ) → m ≤ i → text ++ whole_of i (each g (run i (m - i))) ≡ whole → text ≡ whole
-  unfolding each run
-  left_end text whole l h =
-      let d : m - i ≡ 0 = omega arith in
-      let these : each g (run i (m - i)) ≡ [] = rw d in
-      sym (append-nil text) ∙ ap (λ xs. text ++ xs) (sym (none i)) ∙ ap (λ xs. text ++ whole_of i xs) (sym these) ∙ h
+    (more : (i : ℕ) (x : A) (xs : List A) → whole_of i (x ∷ xs) ≡ part i x ++ whole_of (suc i) xs) (g : ℕ → A) where
+  pub all_parts : (i m : ℕ) → flat (λ j. part j (g j)) (run i m) ≡ whole_of i (each g (run i m))
+  unfolding each run flat
+  all_parts i zero = sym (none i)
+  all_parts i (suc m) = ap (λ xs. part i (g i) ++ xs) (all_parts (suc i) m) ∙ sym (more i (g i) (each g (run (suc i) m)))
 
 -- tests from the i-th on
-abbrev pub tests_left : ℕ → ℕ → List Test → List ℕ
+abbrev tests_left : ℕ → ℕ → List Test → List ℕ
 tests_left own zero ts = typed_tests own ts
 tests_left own (suc i) ts = typed_more own ts
 
-pub no_tests_left : (own i : ℕ) → tests_left own i [] ≡ []
+no_tests_left : (own i : ℕ) → tests_left own i [] ≡ []
 unfolding typed_more
 no_tests_left own zero = refl
 no_tests_left own (suc i) = refl
 
-pub more_tests_left : (own i : ℕ) (t : Test) (ts : List Test) → tests_left own i (t ∷ ts) ≡ (joint i ++ typed_test own t) ++ tests_left own (i + 1) ts
+more_tests_left : (own i : ℕ) (t : Test) (ts : List Test) → tests_left own i (t ∷ ts) ≡ (joint i ++ typed_test own t) ++ tests_left own (suc i) ts
 unfolding typed_more
 more_tests_left own zero t ts = sym (append_assoc (joint 0) (typed_test own t) (typed_more own ts))
-more_tests_left own (suc i) t ts = rw (add-one (suc i)) (sym (append_assoc (joint 1) (typed_test own t) (typed_more own ts)))
+more_tests_left own (suc i) t ts = sym (append_assoc (joint 1) (typed_test own t) (typed_more own ts))
 
-abbrev pub nevers_left : ℕ → List Never → List ℕ
-nevers_left i vs = flat typed_never vs
+pub all_tests : (own : ℕ) (g : ℕ → Test) (m : ℕ) → so_far (λ j t. joint j ++ typed_test own t) g m ≡ typed_tests own (each g (run 0 m))
+all_tests own g m = all_parts (tests_left own) (λ j t. joint j ++ typed_test own t) (no_tests_left own) (more_tests_left own) g 0 m
 
-pub no_nevers_left : (i : ℕ) → nevers_left i [] ≡ []
+pub all_nevers : (g : ℕ → Never) (m : ℕ) → so_far (λ j v. typed_never v) g m ≡ flat typed_never (each g (run 0 m))
 unfolding flat
-no_nevers_left i = refl
+all_nevers g m = all_parts (λ j vs. flat typed_never vs) (λ j v. typed_never v) (λ _. refl) (λ i v vs. refl) g 0 m
 
-pub more_nevers_left : (i : ℕ) (v : Never) (vs : List Never) → nevers_left i (v ∷ vs) ≡ typed_never v ++ nevers_left (i + 1) vs
-unfolding flat
-more_nevers_left i v vs = refl
-
-pub no_steps_left : (i : ℕ) → typed_steps i [] ≡ []
+pub all_steps : (g : ℕ → Step) (m : ℕ) → so_far typed_step g m ≡ typed_steps 0 (each g (run 0 m))
 unfolding typed_steps
-no_steps_left i = refl
+all_steps g m = all_parts typed_steps typed_step (λ _. refl) (λ i s ss. refl) g 0 m
 
-pub more_steps_left : (i : ℕ) (s : Step) (ss : List Step) → typed_steps i (s ∷ ss) ≡ typed_step i s ++ typed_steps (i + 1) ss
-unfolding typed_steps
-more_steps_left i s ss = rw add-one
+-- what is typed of a test hangs on no more than the field, the sign and the step that its numbers mean
+same_field : (n : ℕ) → field_numbered (field_number (field_numbered n)) ≡ field_numbered n
+same_field n = by (eqb n 0) (eqb n 1)
+  where
+    by : (a b : Bool) → field_numbered (field_number (pick a Who (pick b Value Time))) ≡ pick a Who (pick b Value Time)
+    by true b = refl
+    by false true = refl
+    by false false = refl
 
--- of one number, any count but 0 takes it
-pub one_taken : (n x : ℕ) → (n ≡ 0 → ⊥) → take n (x ∷ []) ≡ x ∷ []
-one_taken zero x h = absurd (h refl)
-one_taken (suc zero) x h = refl
-one_taken (suc (suc n)) x h = refl
+same_sign : (n : ℕ) → sign_numbered (sign_number (sign_numbered n)) ≡ sign_numbered n
+same_sign n = by (eqb n 0) (eqb n 1)
+  where
+    by : (a b : Bool) → sign_numbered (sign_number (pick a Equal (pick b Below NotBelow))) ≡ pick a Equal (pick b Below NotBelow)
+    by true b = refl
+    by false true = refl
+    by false false = refl
 
--- all of so many, from the first on
-pub from_first : {A : Type 0} (g : ℕ → A) (m n : ℕ) → m ≡ n → each g (run 0 (m - 0)) ≡ each g (run 0 n)
-from_first g m n e = let d : m - 0 ≡ n = omega arith in ap (λ k. each g (run 0 k)) d
+same_other : (is : List ℕ) (v : ℕ) → typed_other (option_to_list (slice_get is 0)) v ≡ typed_other is v
+same_other [] v = refl
+same_other (i ∷ is) v = refl
 
--- what `push_str` ensures, in these words
-pub puts_last : (xs before after : List ℕ) (r : Result (Unit {0}) AllocError) → after ≡ cond (is_ok r) (before ++ xs) before → Puts xs before after r
-puts_last xs before after (Ok u) e = e
-puts_last xs before after (Err a) e = tt
-
-pub five_joined : (a b c d e : List ℕ) → (((a ++ b) ++ c) ++ d) ++ e ≡ a ++ (b ++ (c ++ (d ++ e)))
-five_joined a b c d e = simp append_assoc
+pub same_typed : (own : ℕ) (t : Test) → typed_test own (test_of (comparison t)) ≡ typed_test own t
+same_typed own t = rw (same_field t.what, same_sign t.sign, same_other t.step t.other)

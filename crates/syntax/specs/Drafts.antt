@@ -1,6 +1,6 @@
 -- What is read of a pattern, as numbers.
 -- Assumes nothing: these are definitions.
-use Rattle.std.specs.Prelude.{◌≡◌, ◌+◌, ◌≤◌, length}
+use Rattle.std.specs.Prelude.{◌≡◌, ◌+◌, ◌≤◌}
 use Rattle.timeline.specs.Lists.{each, flat}
 use Rattle.arrayvec.specs.ArrayVec.{array_vec_len}
 use Rattle.patterns.specs.Kept.{test_cells}

@@ -1,14 +1,13 @@
 -- What a text reads as: a pattern, or the byte at which no pattern can go on and what could have stood there.
 -- Assumes nothing: these are definitions.
 use Rattle.std.specs.Prelude.{ℕ, ◌+◌, List, [], ◌∷◌, ◌++◌, length, Some, None, Option}
-use Rattle.std.specs.Option.{option_map, option_to_list}
+use Rattle.std.specs.Option.{option_map}
 use Rattle.timeline.specs.Lists.{pick}
 use Rattle.patterns.specs.Patterns.{Test, Never, Step, Pattern}
-use Rattle.patterns.specs.Codes.{field_number, sign_number}
+use Rattle.patterns.specs.Codes.{test_of}
 use Rattle.syntax.specs.declared.places.Place.TheVariants.{Item, Number, StepName, NeverName, Named, Testing, Tested, LateWord, Whole}
 use Rattle.syntax.specs.declared.places.Stand.{Stand}
 use Rattle.syntax.specs.declared.places.Stand.TheVariants.{At, Rest, Digits}
-use Rattle.syntax.specs.declared.places.Comparison.{Comparison}
 use Rattle.syntax.specs.declared.moves.Act.{Act}
 use Rattle.syntax.specs.declared.moves.Act.TheVariants.{Nothing, Test as Adds, EndStep, EndNever}
 use Rattle.syntax.specs.declared.moves.Move.{Move}
@@ -26,9 +25,6 @@ pub record Built : Type 0 where
   pub names : List ℕ
   pub nevers : List Never
   pub tests : List Test
-
-abbrev pub test_of : Comparison → Test
-test_of t = record { what = field_number t.what; sign = sign_number t.sign; step = option_to_list t.step; other = t.other }
 
 abbrev pub with_never : Built → ℕ → Built
 with_never w kind = record { steps = w.steps; names = w.names; nevers = w.nevers ++ (record { kind = kind; tests = w.tests } ∷ []); tests = [] }

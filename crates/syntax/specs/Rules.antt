@@ -1,6 +1,6 @@
 -- The rules of the grammar: where a reader stands after a byte, by where it stood. None: no pattern goes on with this byte.
 -- Assumes nothing: these are definitions.
-use Rattle.std.specs.Prelude.{ℕ, ◌+◌, ◌-◌, ◌*◌, Bool, true, false, not, ◌&&◌, List, length, is_some, Some, None, Option, ◌==◌, nat_lt, slice_index}
+use Rattle.std.specs.Prelude.{ℕ, ◌+◌, ◌-◌, ◌*◌, Bool, not, ◌&&◌, List, length, is_some, Some, None, Option, ◌==◌, nat_lt, slice_index}
 use Rattle.std.specs.Option.{option_map}
 use Rattle.timeline.specs.Lists.{pick}
 use Rattle.patterns.specs.declared.fields.Field.{Field}
@@ -19,7 +19,7 @@ use Rattle.syntax.specs.declared.places.Place.{Place}
 use Rattle.syntax.specs.declared.places.Place.TheVariants.{Item, Number, StepName, NeverName, Named, Testing, Tested, LateWord, Whole}
 use Rattle.syntax.specs.declared.places.Stand.{Stand}
 use Rattle.syntax.specs.declared.places.Stand.TheVariants.{At, Rest, Digits}
-use Rattle.syntax.specs.declared.places.Comparison.{Comparison}
+use Rattle.patterns.specs.declared.comparing.Comparison.{Comparison}
 use Rattle.syntax.specs.declared.moves.Act.{Act}
 use Rattle.syntax.specs.declared.moves.Act.TheVariants.{Nothing, Test, EndStep, EndNever}
 use Rattle.syntax.specs.declared.moves.Move.{Move}

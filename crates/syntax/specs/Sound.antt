@@ -19,7 +19,8 @@ use Rattle.syntax.specs.declared.moves.Act.TheVariants.{Nothing, Test, EndStep, 
 use Rattle.syntax.specs.declared.moves.Move.{Move}
 use Rattle.syntax.specs.Words.{letter, spelling}
 use Rattle.syntax.specs.Rules.{limit}
-use Rattle.syntax.specs.Reading.{Built, State, test_of, with_act}
+use Rattle.patterns.specs.Codes.{test_of}
+use Rattle.syntax.specs.Reading.{Built, State, with_act}
 
 -- what is read may be in a pattern
 pub record Fine (w : Built) : Type 0 where

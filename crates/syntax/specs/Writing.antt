@@ -1,17 +1,12 @@
--- What is put at the end of a text, and what writing a pattern answers.
+-- What writing a pattern answers.
 -- Assumes nothing: these are definitions.
-use Rattle.std.specs.Prelude.{◌≡◌, ℕ, true, false, List, ◌++◌, Ok, Err, string_bytes, Result, String, OnOk}
-use Rattle.std.specs.declared.alloc.AllocError.{AllocError}
+use Rattle.std.specs.Prelude.{◌≡◌, ℕ, true, false, List, Ok, Err, string_bytes, Result, String}
 use Rattle.std.specs.declared.alloc.Global.{Global}
 use Rattle.patterns.specs.Limits.{a_pattern}
 use Rattle.patterns.specs.Numbers.{pattern_in}
 use Rattle.syntax.specs.declared.writing.Unwritten.{Unwritten}
 use Rattle.syntax.specs.declared.writing.Unwritten.TheVariants.{NoPattern, NoMemory}
 use Rattle.syntax.specs.Typed.{typed}
-
--- where it did not run out of memory, these bytes were put at the end
-abbrev pub Puts : List ℕ → List ℕ → List ℕ → Result (Unit {0}) AllocError → Type 0
-Puts xs before after r = OnOk r (after ≡ before ++ xs)
 
 -- what writing a row answers: the text of the pattern that it says, if that may be
 abbrev pub Writes : List ℕ → Result (String Global) Unwritten → Type 0

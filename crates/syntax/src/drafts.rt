@@ -2,15 +2,13 @@
 ghost use Rattle.std.specs.Prelude.{◌≡◌, ◌+◌, ◌*◌, ◌≤◌, [], ◌++◌, length};
 ghost use Rattle.std.specs.List.{flat_map};
 ghost use Rattle.arrayvec.specs.ArrayVec.{array_vec_len};
-ghost use Rattle.patterns.specs.Kept.{test_cells};
-ghost use Rattle.syntax.specs.Reading.{Built, test_of, with_never, with_step, with_act};
+ghost use Rattle.syntax.specs.Reading.{Built, with_never, with_step, with_act};
 ghost use Rattle.syntax.specs.Drafts.{Drawn, Roomy};
 
-use crate::limits::{NEVER_WORDS, TEST_WORDS};
 use crate::moves::Act;
-use crate::places::Comparison;
-use crate::words::{field_code, sign_code};
 use arrayvec::ArrayVec;
+use patterns::Comparison;
+use patterns::layout::{NEVER_WORDS, TEST_WORDS};
 
 // More numbers than a pattern has.
 const ROOM: usize = 512;
@@ -30,20 +28,6 @@ pub struct Draft {
     pub nevers: ArrayVec<ArrayVec<u64, NEVER_WORDS>, PARTS>,
     // The numbers of each test that is whole, of the step or never that is under way.
     pub tests: ArrayVec<[u64; TEST_WORDS], PARTS>,
-}
-
-impl Comparison {
-    // Its numbers in a row.
-    fn numbers(self) -> [u64; TEST_WORDS]
-        ensures { result ≡ test_cells (test_of self) }
-    {
-        let what = field_code(self.what);
-        let sign = sign_code(self.sign);
-        match self.step {
-            Some(step) => [what, sign, 1, step, self.other],
-            None => [what, sign, 0, 0, self.other],
-        }
-    }
 }
 
 // Numbers put at the end of a row that has room for them.
@@ -80,7 +64,7 @@ impl Draft {
         requires { Roomy self.old }
         ensures { (w : Built) → Drawn self.old w → Drawn self.new (with_act w (Act.Test test)) }
     {
-        self.tests.push(test.numbers());
+        self.tests.push(<[u64; TEST_WORDS]>::from(test));
     }
 
     fn end_never(&mut self, kind: u64)

@@ -3,12 +3,12 @@ ghost use Rattle.std.specs.Prelude.{◌≡◌, length};
 ghost use Rattle.syntax.specs.Expects.{expects_item, expects_number, expects_part, expects_at, expects};
 
 use crate::drafts::Draft;
-use crate::limits::{MOST_NEVERS, MOST_STEPS, MOST_TESTS};
 use crate::places::{Part, Place, Slot, Stand};
 use crate::words::Word;
+use patterns::layout::{MOST_NEVERS, MOST_STEPS, MOST_TESTS};
 
 // The words that could have begun at a byte; between words, white space could have stood too, and in a number, more digits.
-#[derive(Clone, Copy)]
+#[derive(Clone, Copy, PartialEq, Eq, Debug)]
 pub enum Expected {
     KindOrNot,
     KindNotOrWithin,

@@ -4,11 +4,9 @@
 mod drafts;
 mod expects;
 mod laws;
-mod limits;
 mod listing;
 mod moves;
 mod places;
-mod putting;
 mod readers;
 mod reading;
 mod rules;
@@ -16,6 +14,7 @@ mod slots;
 mod steps;
 #[cfg(test)]
 mod tests;
+mod typed;
 mod words;
 mod writing;
 

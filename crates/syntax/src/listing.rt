@@ -9,7 +9,7 @@ use crate::reading::{Stop, row_of};
 use std::alloc::{AllocError, Global};
 
 // Why a text gives no numbers.
-#[derive(Clone, Copy)]
+#[derive(Clone, Copy, PartialEq, Eq, Debug)]
 pub enum Unread {
     // The byte with which no pattern goes on, or the end of a text that breaks off, and what could have stood there.
     At(usize, Expected),

@@ -2,8 +2,9 @@
 ghost use Rattle.std.specs.Prelude.{◌≡◌};
 ghost use Rattle.syntax.specs.Rules.{goes, spells, adds, ends, ended};
 
-use crate::places::{Comparison, Head, Place, Role, Stand};
+use crate::places::{Head, Place, Role, Stand};
 use crate::words::Word;
+use patterns::Comparison;
 
 // What is added to the pattern that is read.
 #[derive(Clone, Copy)]

@@ -70,13 +70,3 @@ pub enum Stand {
     // In a number.
     Digits(Slot, u64),
 }
-
-// A test as it was read.
-#[derive(Clone, Copy)]
-pub struct Comparison {
-    pub what: Field,
-    pub sign: Sign,
-    // The earlier step; none where it compares with a number.
-    pub step: Option<u64>,
-    pub other: u64,
-}

@@ -11,14 +11,14 @@ use crate::expects::Expected;
 use crate::readers::Reader;
 
 // The byte with which no pattern goes on, or the end of a text that breaks off, and what could have stood there.
-#[derive(Clone, Copy)]
+#[derive(Clone, Copy, PartialEq, Eq, Debug)]
 pub struct Stop {
     pub at: usize,
     pub expected: Expected,
 }
 
 // Why a text is not read.
-#[derive(Clone, Copy)]
+#[derive(Clone, Copy, PartialEq, Eq, Debug)]
 pub enum Refusal {
     // The byte with which no pattern goes on, or the end of a text that breaks off, and what could have stood there.
     At(usize, Expected),

@@ -5,11 +5,11 @@ ghost use Rattle.syntax.specs.declared.places.Stand.TheVariants.{At};
 ghost use Rattle.syntax.specs.Rules.{goes, only_if, begins_item, begins_name, begins_sign, begins_part, begins};
 
 use crate::drafts::Draft;
-use crate::limits::{MOST_NEVERS, MOST_STEPS, MOST_TESTS};
 use crate::moves::{Act, Move};
-use crate::places::{Comparison, Head, Part, Place, Role, Slot, Stand};
-use crate::words::{Word, field_begun, field_code};
-use patterns::{Field, Sign};
+use crate::places::{Head, Part, Place, Role, Slot, Stand};
+use crate::words::{Word, field_begun};
+use patterns::layout::{MOST_NEVERS, MOST_STEPS, MOST_TESTS};
+use patterns::{Comparison, Field, Sign};
 
 // The step that has a letter.
 fn step_named(letter: u8, names: &[u8]) -> Option<u64>
@@ -106,7 +106,7 @@ fn begin_part(head: Head, part: Part, names: &[u8], byte: u8) -> Option<Move>
                 what,
                 sign,
                 step: Some(step),
-                other: field_code(field),
+                other: u64::from(field),
             };
             let stand = Stand::Rest(Word::Of(field), 1, Place::Tested(head));
             Some(Move::adding(test, stand))

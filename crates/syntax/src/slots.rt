@@ -3,9 +3,10 @@ ghost use Rattle.std.specs.Prelude.{◌≡◌, true};
 ghost use Rattle.syntax.specs.Words.{digit};
 ghost use Rattle.syntax.specs.Rules.{slot_of, limit, counted, numbered};
 
-use crate::limits::{KINDS, MOST_STEPS, NUMBERS, TIMES};
 use crate::moves::Move;
-use crate::places::{Comparison, Part, Place, Slot, Stand};
+use crate::places::{Part, Place, Slot, Stand};
+use patterns::Comparison;
+use patterns::layout::{KINDS, MOST_STEPS, NUMBERS, TIMES};
 
 impl Slot {
     // Its numbers are below this.

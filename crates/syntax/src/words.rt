@@ -1,12 +1,11 @@
 // The words and marks of a typed pattern, and which bytes are white, digits and letters.
 ghost use Rattle.std.specs.Prelude.{◌≡◌, ◌<◌};
 ghost use Rattle.syntax.specs.Words.{white, digit, spelling, field_begun};
-ghost use Rattle.patterns.specs.Codes.{field_number, sign_number};
 
-use patterns::{Field, Sign};
+use patterns::Field;
 
 // What is spelled with more than one byte.
-#[derive(Clone, Copy)]
+#[derive(Clone, Copy, PartialEq, Eq, Debug)]
 pub enum Word {
     Not,
     Where,
@@ -64,25 +63,5 @@ pub fn field_begun(byte: u8) -> Option<Field>
         b'v' => Some(Field::Value),
         b't' => Some(Field::Time),
         _ => None,
-    }
-}
-
-pub fn field_code(field: Field) -> u64
-    ensures { result ≡ field_number field }
-{
-    match field {
-        Field::Who => 0,
-        Field::Value => 1,
-        Field::Time => 2,
-    }
-}
-
-pub fn sign_code(sign: Sign) -> u64
-    ensures { result ≡ sign_number sign }
-{
-    match sign {
-        Sign::Equal => 0,
-        Sign::Below => 1,
-        Sign::NotBelow => 2,
     }
 }

@@ -1,5 +1,5 @@
-use Rattle.std.proofs.Common.{◌≡◌, length, get_or, sym, refl, ap, ◌∙◌, arith}
-use Rattle.syntax.specs.Reading.{refused, begun, settled, ready, wanted}
+use Rattle.std.proofs.Common.{◌≡◌, length, sym, refl, ap, ◌∙◌, arith}
+use Rattle.syntax.specs.Reading.{refused, begun}
 use Rattle.syntax.proofs.Staying.{sound_begun, left_on, left_refused, left_none, rowed_refused, rowed_means}
 use Rattle.syntax.proofs.reading.row_of.Goals as goal
 

@@ -1,9 +1,7 @@
-use Rattle.std.proofs.Common.{◌≡◌, ◌==◌, List, Option, ℕ, sym, ◌∙◌, rules, tests}
-use Rattle.std.specs.List.{position_from}
+use Rattle.std.proofs.Common.{◌==◌, sym, ◌∙◌, rules, tests}
 use Rattle.std.proofs.lemmas.Iterator.{YieldsList-from_slice}
 use Rattle.std.proofs.lemmas.Iterator.Search.{position_from_yields_List}
 use Rattle.std.proofs.lemmas.Iterator.Adapters.{position_from-zero}
-use Rattle.syntax.specs.Names.{step_named}
 use Rattle.syntax.proofs.rules.step_named.Goals as goal
 
 pub returns : goal.returns

@@ -1,7 +1,7 @@
 use Rattle.std.proofs.Common.{[], ◌∷◌, ◌++◌, sym, ap, ◌∙◌}
 use Rattle.timeline.specs.Lists.{each}
 use Rattle.patterns.specs.Kept.{test_cells}
-use Rattle.syntax.specs.Reading.{test_of}
+use Rattle.patterns.specs.Codes.{test_of}
 use Rattle.syntax.proofs.Growing.{each_push}
 use Rattle.syntax.proofs.drafts.Draft.add_test.Goals as goal
 
@@ -12,6 +12,6 @@ returns c =
       names = h.names;
       nevers = h.nevers;
       tests =
-          c.push.ensures.items ∙ ap (λ ts. ts ++ (c.numbers.result ∷ [])) h.tests ∙ ap (λ t. each test_cells w.tests ++ (t ∷ [])) c.numbers.ensures
+          c.push.ensures.items ∙ ap (λ ts. ts ++ (c.from.result ∷ [])) h.tests ∙ ap (λ t. each test_cells w.tests ++ (t ∷ [])) c.from.ensures
           ∙ sym (each_push test_cells w.tests (test_of c.args.test));
     }

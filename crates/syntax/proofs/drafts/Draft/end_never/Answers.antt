@@ -1,6 +1,6 @@
 use Rattle.std.proofs.Common.{[], ◌∷◌, ◌++◌, length, sym, ap, ◌∙◌}
 use Rattle.std.specs.List.{flat_map}
-use Rattle.timeline.specs.Lists.{each, flat}
+use Rattle.timeline.specs.Lists.{each}
 use Rattle.patterns.specs.Kept.{test_cells}
 use Rattle.syntax.specs.Rows.{never_row}
 use Rattle.syntax.proofs.Growing.{each_push, flattened, length_each}

@@ -1,6 +1,4 @@
 use Rattle.std.proofs.Common.{◌≡◌, [], ◌∷◌, ◌++◌, length, sym, ap, ◌∙◌, arith, lit<}
-use Rattle.timeline.specs.Lists.{flat}
-use Rattle.syntax.specs.Rows.{step_row}
 use Rattle.syntax.specs.Reading.{settled, refused, whole}
 use Rattle.syntax.proofs.Room.{roomy_reader}
 use Rattle.syntax.proofs.Staying.{sound_settled, stands_wanted, ended_whole, ended_not}
