@@ -90,24 +90,6 @@ impl Step {
         let to = Moment::from(e);
         from < to && !self.is_broken(all, row, from, to)
     }
-
-    // Each row made longer by each event that may be this step's.
-    fn longer(
-        &self,
-        heap: Global,
-        all: &[Event],
-        rows: &[Vec<Event>],
-    ) -> Result<Vec<Vec<Event>>, AllocError> {
-        let mut longer = Vec::new(heap);
-        for row in rows {
-            for e in all.iter().filter(|e| self.goes_on(all, row, **e)) {
-                let mut grown = row.clone()?;
-                grown.push(*e)?;
-                longer.push(grown)?;
-            }
-        }
-        Ok(longer)
-    }
 }
 
 // A whole row, if it lies within the window.
@@ -123,24 +105,48 @@ fn whole(heap: Global, row: &[Event], within: u64) -> Result<Option<Fit>, AllocE
     Ok(Some(Fit { last, all }))
 }
 
-impl Pattern {
-    // All rows of an event for each step, whatever the window.
-    fn grown(&self, heap: Global, all: &[Event]) -> Result<Vec<Vec<Event>>, AllocError> {
-        let mut rows = vec![in heap; Vec::new(heap)]?;
-        for step in self.steps.iter() {
-            rows = step.longer(heap, all, &rows)?;
-        }
-        Ok(rows)
-    }
+// A search among some events: the row so far, and the rows that fit.
+#[derive(Drop)]
+struct Search<'a> {
+    heap: Global,
+    all: &'a [Event],
+    within: u64,
+    row: Vec<Event>,
+    fits: Vec<Fit>,
+}
 
-    // All rows that fit among some events, in the order in which they are told.
-    pub fn fits(&self, heap: Global, all: &[Event]) -> Result<Vec<Fit>, AllocError> {
-        let mut fits = Vec::new(heap);
-        for row in self.grown(heap, all)?.iter() {
-            if let Some(fit) = whole(heap, row, self.within)? {
-                fits.push(fit)?;
+impl Search<'_> {
+    // Finds the rows that begin as the row so far and go on by an event for each of these steps.
+    fn go_on(&mut self, steps: &[Step]) -> Result<(), AllocError> {
+        let Some((step, later)) = steps.split_first() else {
+            if let Some(fit) = whole(self.heap, &self.row, self.within)? {
+                self.fits.push(fit)?;
+            }
+            return Ok(());
+        };
+        for e in self.all {
+            if step.goes_on(self.all, &self.row, *e) {
+                self.row.push(*e)?;
+                self.go_on(later)?;
+                self.row.pop();
             }
         }
+        Ok(())
+    }
+}
+
+impl Pattern {
+    // All rows that fit among some events, in the order in which they are told.
+    pub fn fits(&self, heap: Global, all: &[Event]) -> Result<Vec<Fit>, AllocError> {
+        let mut search = Search {
+            heap,
+            all,
+            within: self.within,
+            row: Vec::new(heap),
+            fits: Vec::new(heap),
+        };
+        search.go_on(&self.steps)?;
+        let Search { mut fits, .. } = search;
         fits.sort()?;
         Ok(fits)
     }
