@@ -8,7 +8,7 @@ use crate::shapes::{Pattern, Unread};
 use crate::tally::Tally;
 use listener::Refusal;
 use rows::{FindError, find_all, find_counted};
-use std::alloc::{AllocError, Global};
+use std::alloc::AllocError;
 use thiserror::Error;
 use timeline::Event;
 
@@ -19,6 +19,8 @@ pub enum Stop {
     Differs(Difference),
     #[error(transparent)]
     Memory(#[from(alloc)] AllocError),
+    #[error("the finder has not enough memory")]
+    Finder,
 }
 
 fn same(place: Place, told: Said, right: Said) -> Result<(), Stop> {
@@ -28,89 +30,106 @@ fn same(place: Place, told: Said, right: Said) -> Result<(), Stop> {
     Err(Stop::Differs(Difference { place, told, right }))
 }
 
-fn no_pattern(heap: Global) -> Said {
-    Said::only(heap, End::Refused(Refusal::NoPattern))
-}
-
-// What the finder found, as if it were told at the end.
-fn as_said(heap: Global, found: Result<Vec<Vec<u64>>, FindError>) -> Result<Said, Stop> {
-    let found = match found {
-        Ok(found) => found,
-        Err(FindError::NoPattern) => return Ok(no_pattern(heap)),
-        Err(FindError::Memory) => return Err(Stop::Memory(AllocError)),
-    };
-    let rows = found
-        .iter()
-        .map(|numbers| Row::of(numbers, |number| *number))
-        .collect(heap)?;
-    Ok(Said {
-        rows,
-        end: End::Over,
-    })
-}
-
-// What is no pattern is refused by all.
-fn refused(heap: Global, case: &Case, begun: Said) -> Result<(), Stop> {
-    same(Place::Pattern, begun, no_pattern(heap))?;
-    let counted = as_said(heap, find_counted(heap, &case.row, &case.events))?;
-    same(Place::Counted, counted, no_pattern(heap))?;
-    let all = as_said(heap, find_all(heap, &case.row, &case.events))?;
-    same(Place::All, all, no_pattern(heap))
-}
-
-// Each event, and then the end; all rows that were told.
-fn heard(
-    heap: Global,
-    case: &Case,
-    listening: &mut Listening,
-    knowing: &mut Knowing,
+// One thing that was told: its rows behind the others, where it is right.
+fn take(
+    rows: &mut Vec<Row>,
     tally: &mut Tally,
-) -> Result<Vec<Row>, Stop> {
-    let mut rows = Vec::new(heap);
-    for e in case.events.iter() {
-        let told = listening.hear(*e)?;
-        let right = knowing.hear(*e)?;
-        rows.extend_from_slice(&told.rows)?;
-        tally.count_said(&right);
-        same(Place::Event(e.heard), told, right)?;
-    }
-    let told = listening.finish()?;
-    let right = knowing.finish()?;
+    place: Place,
+    told: Said,
+    right: Said,
+) -> Result<(), Stop> {
     rows.extend_from_slice(&told.rows)?;
     tally.count_said(&right);
-    same(Place::End, told, right)?;
-    Ok(rows)
+    same(place, told, right)
 }
 
-// All rows that were told, beside those that the finder finds.
-fn found(heap: Global, case: &Case, counted: &[Event], rows: Vec<Row>) -> Result<(), Stop> {
-    let end = End::Over;
-    let again = rows.clone()?;
-    let right = as_said(heap, find_counted(heap, &case.row, &case.events))?;
-    same(Place::Counted, Said { rows, end }, right)?;
-    let right = as_said(heap, find_all(heap, &case.row, counted))?;
-    same(Place::All, Said { rows: again, end }, right)
-}
+impl Case {
+    fn no_pattern(&self) -> Said {
+        Said::only(self.heap, End::Refused(Refusal::NoPattern))
+    }
 
-pub fn compare(
-    heap: Global,
-    case: &Case,
-    listening: &mut Listening,
-    tally: &mut Tally,
-) -> Result<(), Stop> {
-    tally.count_case(case);
-    let begun = listening.begin(&case.row, case.start)?;
-    let pattern = match Pattern::read(heap, &case.row) {
-        Ok(pattern) => pattern,
-        Err(Unread::NoPattern) => {
-            tally.count_no_pattern();
-            return refused(heap, case, begun);
+    // What a finder found, as if it were told at the end.
+    fn as_said(&self, found: Result<Vec<Vec<u64>>, FindError>) -> Result<Said, Stop> {
+        let found = match found {
+            Ok(found) => found,
+            Err(FindError::NoPattern) => return Ok(self.no_pattern()),
+            Err(FindError::Memory) => return Err(Stop::Finder),
+        };
+        let rows = found
+            .iter()
+            .map(|numbers| Row::of(numbers, |number| *number))
+            .collect(self.heap)?;
+        let end = End::Over;
+        Ok(Said { rows, end })
+    }
+
+    // All rows, of the events that count by the finder's own account.
+    fn found_counted(&self) -> Result<Said, Stop> {
+        self.as_said(find_counted(self.heap, &self.row, &self.events))
+    }
+
+    // All rows of some events.
+    fn found_all(&self, events: &[Event]) -> Result<Said, Stop> {
+        self.as_said(find_all(self.heap, &self.row, events))
+    }
+
+    // What is no pattern is refused by all.
+    fn refused(&self, begun: Said) -> Result<(), Stop> {
+        same(Place::Pattern, begun, self.no_pattern())?;
+        same(Place::Counted, self.found_counted()?, self.no_pattern())?;
+        same(Place::All, self.found_all(&self.events)?, self.no_pattern())
+    }
+
+    // Each event, and then the end; all rows that were told.
+    fn heard(
+        &self,
+        listening: &mut Listening,
+        knowing: &mut Knowing,
+        tally: &mut Tally,
+    ) -> Result<Vec<Row>, Stop> {
+        let mut rows = Vec::new(self.heap);
+        for e in self.events.iter() {
+            let told = listening.hear(*e)?;
+            let right = knowing.hear(*e)?;
+            take(&mut rows, tally, Place::Event(e.heard), told, right)?;
         }
-        Err(Unread::Memory(e)) => return Err(Stop::Memory(e)),
-    };
-    same(Place::Pattern, begun, Said::only(heap, End::Waits))?;
-    let mut knowing = Knowing::new(heap, pattern);
-    let rows = heard(heap, case, listening, &mut knowing, tally)?;
-    tally.count_rows(knowing.steps(), rows.len() as u64, knowing.forbidden()?);
-    found(heap, case, &knowing.counted, rows)
+        let told = listening.finish()?;
+        let right = knowing.finish()?;
+        take(&mut rows, tally, Place::End, told, right)?;
+        Ok(rows)
+    }
+
+    // All rows that were told, beside those that the finder finds.
+    fn found(&self, counted: &[Event], rows: Vec<Row>) -> Result<(), Stop> {
+        let end = End::Over;
+        let again = rows.clone()?;
+        same(Place::Counted, Said { rows, end }, self.found_counted()?)?;
+        same(
+            Place::All,
+            Said { rows: again, end },
+            self.found_all(counted)?,
+        )
+    }
+
+    pub fn compare(&self, listening: &mut Listening, tally: &mut Tally) -> Result<(), Stop> {
+        tally.count_case(self);
+        let begun = listening.begin(&self.row, self.start)?;
+        let pattern = match Pattern::read(self.heap, &self.row) {
+            Ok(pattern) => pattern,
+            Err(Unread::NoPattern) => {
+                tally.count_no_pattern();
+                return self.refused(begun);
+            }
+            Err(Unread::Memory(e)) => return Err(Stop::Memory(e)),
+        };
+        same(
+            Place::Pattern,
+            begun,
+            Said::only(self.heap, End::Waits),
+        )?;
+        let mut knowing = Knowing::new(self.heap, pattern);
+        let rows = self.heard(listening, &mut knowing, tally)?;
+        tally.count_rows(knowing.steps(), rows.len() as u64, knowing.forbidden()?);
+        self.found(&knowing.counted, rows)
+    }
 }

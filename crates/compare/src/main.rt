@@ -13,7 +13,7 @@ mod shapes;
 mod tally;
 mod world;
 
-use comparing::{Stop, compare};
+use comparing::Stop;
 use files::{Failed, ending};
 use listening::Listening;
 use making::Case;
@@ -35,9 +35,9 @@ fn run(rt: &HostRuntime, task: Task) -> Result<(), Failed> {
     let mut tally = Tally::default();
     for i in 0..task.count {
         let case = Case::make(heap, task.seed, task.first.saturating_add(i))?;
-        match compare(heap, &case, &mut listening, &mut tally) {
+        match case.compare(&mut listening, &mut tally) {
             Ok(()) => (),
-            Err(Stop::Memory(e)) => return Err(Failed::from(e)),
+            Err(Stop::Memory(_) | Stop::Finder) => return Err(Failed::Memory),
             Err(Stop::Differs(difference)) => {
                 difference.print(rt, &case)?;
                 return Err(Failed::Said);

@@ -16,8 +16,11 @@ pub enum Damage {
     Longer,
 }
 
+pub const DAMAGES: usize = 3;
+
 #[derive(Drop)]
 pub struct Case {
+    pub heap: Global,
     pub seed: u64,
     pub number: u64,
     pub world: World,
@@ -213,6 +216,7 @@ impl Case {
             (SLOTS - 1).saturating_sub(maker.random.below(NEAR))
         };
         Ok(Case {
+            heap,
             seed,
             number,
             world,

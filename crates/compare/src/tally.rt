@@ -1,7 +1,8 @@
 // What happened in all cases, counted.
-use crate::making::Case;
+use crate::making::{Case, DAMAGES};
 use crate::said::{End, Said};
 use crate::shapes::MOST_STEPS;
+use crate::world::SCALES;
 use std::fmt;
 use trials::{Counts, add};
 
@@ -21,10 +22,10 @@ pub struct Tally {
     // Rows that weren't known before nothing more came.
     at_end: u64,
     // Windows and lateness, by their scales.
-    windows: Counts<3>,
-    latenesses: Counts<3>,
+    windows: Counts<SCALES>,
+    latenesses: Counts<SCALES>,
     // Rows of numbers that were damaged, by the damage.
-    damages: Counts<3>,
+    damages: Counts<DAMAGES>,
     // Cases whose ring begins near its end.
     seams: u64,
 }

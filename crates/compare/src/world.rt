@@ -34,6 +34,8 @@ pub enum Scale {
     Huge,
 }
 
+pub const SCALES: usize = 3;
+
 impl Scale {
     fn draw(random: &mut Random) -> Scale {
         match random.below(20) {

@@ -5,18 +5,11 @@ use listener::{Call, MEMORY_LONG, Refusal};
 use std::alloc::{AllocError, Global};
 use trials::Random;
 
-// Which memory is lent.
-#[derive(Clone, Copy, PartialEq, Eq)]
-pub enum Memory {
-    Own,
-    // Another, of so many words, all zeros.
-    Other(usize),
-}
-
 // What a call is made with. Its kind is a number, as it is passed: garbage is the point.
 #[derive(Drop)]
 pub struct Trial {
-    pub memory: Memory,
+    // How long another memory is, all zeros, that is lent in place of its own.
+    pub other_memory: Option<usize>,
     pub kind: u64,
     pub row: Vec<u64>,
     pub out: Vec<u64>,
@@ -33,7 +26,7 @@ impl Trial {
             3 => Call::Next,
             _ => return Err(Refusal::Misfit),
         };
-        let fits = self.memory == Memory::Own
+        let fits = self.other_memory.is_none()
             && self.row.len() <= MOST_NUMBERS
             && self.out.len() >= MOST_STEPS;
         if fits { Ok(call) } else { Err(Refusal::Misfit) }
@@ -68,12 +61,12 @@ impl Maker {
         }
     }
 
-    fn memory(&mut self) -> Memory {
+    fn other_memory(&mut self) -> Option<usize> {
         match self.random.below(100) {
-            0 => Memory::Other(0),
-            1 => Memory::Other(MEMORY_LONG - 1),
-            2 => Memory::Other(MEMORY_LONG + 1),
-            _ => Memory::Own,
+            0 => Some(0),
+            1 => Some(MEMORY_LONG - 1),
+            2 => Some(MEMORY_LONG + 1),
+            _ => None,
         }
     }
 
@@ -168,12 +161,12 @@ impl Maker {
     }
 
     pub fn trial(&mut self, mirror: &Mirror) -> Result<Trial, AllocError> {
-        let memory = self.memory();
+        let other_memory = self.other_memory();
         let kind = self.kind(mirror.standing());
         let row = self.row(kind, mirror.get(LATEST))?;
         let out = self.out()?;
         Ok(Trial {
-            memory,
+            other_memory,
             kind,
             row,
             out,

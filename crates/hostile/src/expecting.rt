@@ -59,9 +59,7 @@ impl Mirror {
 
     fn begin(&mut self, row: &[u64]) -> Result<Expected, Refusal> {
         let mut words = [0; PATTERN_WORDS];
-        if keep(row, &mut words).is_err() {
-            return Err(Refusal::NoPattern);
-        }
+        keep(row, &mut words).map_err(|_| Refusal::NoPattern)?;
         self.lay(PHASE, &[0; WITHIN]);
         self.lay(WITHIN, &words);
         self.enter(Phase::Waiting);

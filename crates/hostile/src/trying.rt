@@ -1,5 +1,5 @@
 // One call of the listener, and whether it did what it has to.
-use crate::calls::{Memory, Trial};
+use crate::calls::Trial;
 use crate::harming::Pair;
 use crate::judging::Wrong;
 use crate::layout::RING;
@@ -35,14 +35,13 @@ fn tell_misfit(heap: Global, trial: &Trial, long: usize, out: &mut [u64]) -> Res
 // What was told, where nothing is wrong.
 pub fn tried(heap: Global, pair: &mut Pair, trial: &Trial, number: u64) -> Result<Answer, Stop> {
     let mut out = trial.out.clone()?;
-    let told = match trial.memory {
-        Memory::Own => step(&mut pair.memory, trial.kind, &trial.row, &mut out),
-        Memory::Other(long) => tell_misfit(heap, trial, long, &mut out)?,
+    let told = match trial.other_memory {
+        None => step(&mut pair.memory, trial.kind, &trial.row, &mut out),
+        Some(long) => tell_misfit(heap, trial, long, &mut out)?,
     };
-    let expected = match trial.call() {
-        Ok(call) => pair.mirror.expect(call, &trial.row),
-        Err(refusal) => Err(refusal),
-    };
+    let expected = trial
+        .call()
+        .and_then(|call| pair.mirror.expect(call, &trial.row));
     let mut right = trial.out.clone()?;
     pair.mirror.judge(expected, told, &pair.memory, &mut right)?;
     if out != right {
