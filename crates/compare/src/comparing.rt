@@ -122,11 +122,7 @@ impl Case {
             }
             Err(Unread::Memory(e)) => return Err(Stop::Memory(e)),
         };
-        same(
-            Place::Pattern,
-            begun,
-            Said::only(self.heap, End::Waits),
-        )?;
+        same(Place::Pattern, begun, Said::only(self.heap, End::Waits))?;
         let mut knowing = Knowing::new(self.heap, pattern);
         let rows = self.heard(listening, &mut knowing, tally)?;
         tally.count_rows(knowing.steps(), rows.len() as u64, knowing.forbidden()?);
