@@ -24,7 +24,7 @@ pub slot_other : (ring : List ℕ) (s t : ℕ) (e : Event) → t % capacity ≢ 
 slot_other ring s t e ne = event_other ring (s % capacity) (t % capacity) e ne
 
 -- five numbers that are the same are one event
-pub event_from : (a b : List ℕ) (p q : ℕ) → ((j : ℕ) → j < 5 → get_or a (p + j) 0 ≡ get_or b (q + j) 0) → event_at a p ≡ event_at b q
+event_from : (a b : List ℕ) (p q : ℕ) → ((j : ℕ) → j < 5 → get_or a (p + j) 0 ≡ get_or b (q + j) 0) → event_at a p ≡ event_at b q
 event_from a b p q same =
     let e0 : get_or a p 0 ≡ get_or b q 0 = ap (λ (t : ℕ). get_or a t 0) (sym (add-zero p)) ∙ same 0 (omega arith) ∙ ap (λ (t : ℕ). get_or b t 0) (add-zero q) in
     let e1 : get_or a (p + 1) 0 ≡ get_or b (q + 1) 0 = same 1 (omega arith) in
@@ -44,14 +44,14 @@ module _ (ring xs : List ℕ) (a k : ℕ) (l : length xs ≡ k) (h : a + k ≤ l
   within : (n : ℕ) → a ≤ n → n < a + k → get_or (put_mid a k ring xs) n 0 ≡ get_or xs (n - a) 0
   within n b e = search (rules, places)
 
-  pub slot_beside : (t : ℕ) → (t % capacity * 5 + 5 ≤ a) ⊎ (a + k ≤ t % capacity * 5) → slot (put_mid a k ring xs) t ≡ slot ring t
+  slot_beside : (t : ℕ) → (t % capacity * 5 + 5 ≤ a) ⊎ (a + k ≤ t % capacity * 5) → slot (put_mid a k ring xs) t ≡ slot ring t
   slot_beside t =
       ⊎_elim
       (λ (b : t % capacity * 5 + 5 ≤ a). event_from (put_mid a k ring xs) ring (t % capacity * 5) (t % capacity * 5) (λ j g. below (t % capacity * 5 + j) (omega arith)))
       (λ (b : a + k ≤ t % capacity * 5). event_from (put_mid a k ring xs) ring (t % capacity * 5) (t % capacity * 5) (λ j g. above (t % capacity * 5 + j) (omega arith)))
 
   -- and each slot that they are zeros of is none
-  pub slot_zero : xs ≡ replicate k 0 → (t : ℕ) → a ≤ t % capacity * 5 → t % capacity * 5 + 5 ≤ a + k → slot (put_mid a k ring xs) t ≡ nothing
+  slot_zero : xs ≡ replicate k 0 → (t : ℕ) → a ≤ t % capacity * 5 → t % capacity * 5 + 5 ≤ a + k → slot (put_mid a k ring xs) t ≡ nothing
   slot_zero zeros t b e =
       event_from (put_mid a k ring xs) [] (t % capacity * 5) 0
       (λ j g.

@@ -7,7 +7,7 @@ ghost use Rattle.timeline.specs.Places.{place_of, smaller};
 pub struct NotRising;
 
 // The place of a time behind all times of the row that are not above it; refused where the row does not rise.
-// Each number of the row is looked at once.
+// Each number of the row is looked at once, so that the test and the count are one loop.
 pub fn place(time: u64, times: &[u64]) -> Result<u64, NotRising>
     ensures { result ≡ place_of time times.now }
 {

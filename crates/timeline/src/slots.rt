@@ -16,14 +16,15 @@ impl Span {
         requires { i ≤ capacity }
         ensures { result ≡ (self.start + i) % capacity }
     {
-        let n = self.start + i;
-        if n < CAPACITY { n } else { n - CAPACITY }
+        (self.start + i) % CAPACITY
     }
 
-    // The numbers of all its slots: up to the end of the ring, and from its beginning on.
+    // Where the numbers of its slots lie: up to the end of the ring, and from its beginning on.
     pub(crate) fn numbers(self) -> (Range<usize>, Range<usize>)
-        ensures front { (result.0.start ≡ self.start * 5) × (result.0.end ≡ min (self.start + self.len) capacity * 5) }
-        ensures back { (result.1.start ≡ 0) × (result.1.end ≡ (self.start + self.len - capacity) * 5) }
+        ensures front_start { result.0.start ≡ self.start * 5 }
+        ensures front_end { result.0.end ≡ min (self.start + self.len) capacity * 5 }
+        ensures back_start { result.1.start ≡ 0 }
+        ensures back_end { result.1.end ≡ (self.start + self.len - capacity) * 5 }
     {
         let end = self.start + self.len;
         let turn = end.min(CAPACITY);
