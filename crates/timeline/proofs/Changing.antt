@@ -1,5 +1,5 @@
 -- A ring through any changes that fit holds what the list is after them; events put in one by one are sorted.
-use Rattle.std.proofs.Common.{◌≡◌, ℕ, ◌+◌, ◌-◌, ◌%◌, ◌<◌, ◌≤◌, true, ltb, leb, List, [], ◌∷◌, length, drop, replicate, sym, refl, ap, ◌∙◌, subst, ⊎_elim, zero-add, arith}
+use Rattle.std.proofs.Common.{◌≡◌, ℕ, ◌+◌, ◌-◌, ◌%◌, ◌<◌, ◌≤◌, true, ltb, leb, List, [], ◌∷◌, length, drop, replicate, sym, refl, ap, ◌∙◌, subst, zero-add, arith}
 use Rattle.std.proofs.lemmas.Bool.{and_parts, and_from, ltb-true, leb-true, lt-ltb}
 use Rattle.std.proofs.lemmas.List.{length-drop, length-replicate}
 use Rattle.timeline.specs.declared.events.Event.{Event}
@@ -9,8 +9,8 @@ use Rattle.timeline.specs.Ordered.{put_last, Ordered}
 use Rattle.timeline.specs.Ring.{capacity, ring_long, slot, events, laid, with_put, with_forgotten}
 use Rattle.timeline.specs.Changes.{Change, puts, forgets, changed, Standing, empty_at, changed_ring, fit, Holds, ChangesHold, PutsSort, PutsHeld, SlotsSayAll}
 use Rattle.timeline.proofs.Lists.{All, Pairs, pairs_map}
-use Rattle.timeline.proofs.Sorting.{Apart, ins_comm}
-use Rattle.timeline.proofs.Order.{before_order, put_is, heard_pairs, heard_apart}
+use Rattle.timeline.proofs.Sorting.{Apart}
+use Rattle.timeline.proofs.Order.{length_put, put_comm, heard_pairs, heard_apart}
 use Rattle.timeline.proofs.Ordering.{put_last_belongs, put_ordered, drop_ordered}
 use Rattle.timeline.proofs.Cells.{slots_all}
 use Rattle.timeline.proofs.Laid.{events_of_laid, laid_outside, laid_over, laid_forget, slot_zeros}
@@ -47,11 +47,6 @@ holds_from es r o =
           ∙ laid_outside zeros r.start es k (omega (arith, o.len)) b
           ∙ slot_zeros ring_long (r.start + k);
     }
-
-length_put : (e : Event) (fs : List Event) → length (put e fs) ≡ length fs + 1
-unfolding put
-length_put e [] = refl
-length_put e (f ∷ fs) = let ih = length_put e fs in grind arith
 
 -- one put in
 step_puts : (e : Event) (es : List Event) (r : Standing) → LaidOut es r → r.len < capacity
@@ -103,18 +98,12 @@ unfolding ChangesHold
 changes_hold start cs f = holds_from (changed [] cs) (changed_ring (empty_at start) cs) (go_on cs [] (empty_at start) (none_laid start) f)
 
 -- SORTED
-put_comm : (a b : Event) (fs : List Event) → before a b ≡ true → put a (put b fs) ≡ put b (put a fs)
-put_comm a b fs h = simp put_is (ins_comm before before_order a b fs h)
-
-apart_comm : (a b : Event) (fs : List Event) → Apart before a b → put a (put b fs) ≡ put b (put a fs)
-apart_comm a b fs = ⊎_elim (put_comm a b fs) (λ h. sym (put_comm b a fs h))
-
 -- one put in before others that it is apart of, or after them
 put_later : (e : Event) (fs es : List Event) → All (Apart before e) es → changed (put e fs) (each puts es) ≡ put e (changed fs (each puts es))
 unfolding changed each
 put_later e fs [] a = refl
 put_later e fs (g ∷ es) a =
-    ap (λ (t : List Event). changed t (each puts es)) (sym (apart_comm e g fs a.0))
+    ap (λ (t : List Event). changed t (each puts es)) (sym (put_comm e g fs a.0))
     ∙ put_later e (put g fs) es a.1
 
 apart_sorted : (es : List Event) → Pairs (Apart before) es → changed [] (each puts es) ≡ sorted es
