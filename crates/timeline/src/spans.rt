@@ -17,7 +17,8 @@ impl Span {
     // None where a ring has no such slots.
     pub fn new(start: usize, len: usize) -> Option<Span>
         ensures test { is_some result ≡ (nat_lt start capacity && nat_le len capacity) }
-        ensures cases { IfSome result (λ s. (s.start ≡ start) × (s.len ≡ len)) }
+        ensures start { IfSome result (λ s. s.start ≡ start) }
+        ensures len { IfSome result (λ s. s.len ≡ len) }
     {
         if start < CAPACITY && len <= CAPACITY {
             Some(Span { start, len })
@@ -28,7 +29,8 @@ impl Span {
 
     // No slot, at the beginning of a ring.
     pub fn empty() -> Span
-        ensures { (result.start ≡ 0) × (result.len ≡ 0) }
+        ensures start { result.start ≡ 0 }
+        ensures len { result.len ≡ 0 }
     {
         Span { start: 0, len: 0 }
     }
