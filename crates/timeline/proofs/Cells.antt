@@ -1,12 +1,12 @@
 -- Slots of a ring: one written is told from all others, and the slots of one turn say all that a ring holds.
-use Rattle.std.proofs.Common.{◌≡◌, ℕ, zero, suc, ◌+◌, ◌-◌, ◌*◌, ◌/◌, ◌%◌, ◌<◌, ◌≤◌, ◌≢◌, ◌⊎◌, inl, inr, ⊎_elim, min, List, [], length, get_or, take, drop, replicate, sym, refl, ap, ◌∙◌, add-zero, arith, rules}
+use Rattle.std.proofs.Common.{◌≡◌, ℕ, ◌+◌, ◌-◌, ◌*◌, ◌/◌, ◌%◌, ◌<◌, ◌≤◌, ◌≢◌, ◌⊎◌, inl, inr, ⊎_elim, min, List, [], length, get_or, replicate, sym, ap, ◌∙◌, arith, rules}
 use Rattle.std.proofs.lemmas.Bool.{cases_lt}
-use Rattle.std.proofs.lemmas.List.{length-set, length-replicate, get_or-replicate, ext_get_or, drop-drop, places}
-use Rattle.std.specs.Simd.{first_chunks}
+use Rattle.std.proofs.lemmas.List.{length-set, length-replicate, get_or-replicate, ext_get_or, places}
 use borrow.Rule.Slice.PartMut.{put_mid}
 use Rattle.timeline.specs.declared.events.Event.{Event}
 use Rattle.timeline.specs.Order.{nothing}
 use Rattle.timeline.specs.Ring.{capacity, ring_long, event_at, with_event, slot}
+use Rattle.timeline.proofs.Chunks.{event_from}
 
 pub with_long : (ring : List ℕ) (n : ℕ) (e : Event) → length (with_event ring n e) ≡ length ring
 with_long ring n e = simp length-set
@@ -22,16 +22,6 @@ slot_same ring s e h = event_same ring (s % capacity * 5) e (omega arith)
 
 pub slot_other : (ring : List ℕ) (s t : ℕ) (e : Event) → t % capacity ≢ s % capacity → slot (with_event ring (s % capacity * 5) e) t ≡ slot ring t
 slot_other ring s t e ne = event_other ring (s % capacity) (t % capacity) e ne
-
--- five numbers that are the same are one event
-event_from : (a b : List ℕ) (p q : ℕ) → ((j : ℕ) → j < 5 → get_or a (p + j) 0 ≡ get_or b (q + j) 0) → event_at a p ≡ event_at b q
-event_from a b p q same =
-    let e0 : get_or a p 0 ≡ get_or b q 0 = ap (λ (t : ℕ). get_or a t 0) (sym (add-zero p)) ∙ same 0 (omega arith) ∙ ap (λ (t : ℕ). get_or b t 0) (add-zero q) in
-    let e1 : get_or a (p + 1) 0 ≡ get_or b (q + 1) 0 = same 1 (omega arith) in
-    let e2 : get_or a (p + 2) 0 ≡ get_or b (q + 2) 0 = same 2 (omega arith) in
-    let e3 : get_or a (p + 3) 0 ≡ get_or b (q + 3) 0 = same 3 (omega arith) in
-    let e4 : get_or a (p + 4) 0 ≡ get_or b (q + 4) 0 = same 4 (omega arith) in
-    rw (e0, e1, e2, e3, e4) refl
 
 -- numbers written over part of a ring leave each slot that has none of them
 module _ (ring xs : List ℕ) (a k : ℕ) (l : length xs ≡ k) (h : a + k ≤ length ring) where
@@ -94,19 +84,6 @@ module _ (ring front back : List ℕ) (s len a b c d : ℕ) (long : length ring 
       slot_beside (put_mid a (b - a) ring front) back c (d - c) lk (omega (arith, long')) (s + k) (inr (omega arith))
       ∙ slot_beside ring front a (b - a) lf (omega arith) (s + k)
       (⊎_elim (λ (e : s + k < capacity). inr (omega arith)) (λ (e : capacity ≤ s + k). inl (omega arith)) (cases_lt (s + k) capacity))
-
--- a chunk of five numbers, as an event
-chunk_at : (k i : ℕ) (xs d : List ℕ) → i < k → get_or (first_chunks 5 k xs) i d ≡ take 5 (drop (i * 5) xs)
-chunk_at zero i xs d h = absurd (omega arith)
-chunk_at (suc k) zero xs d h = refl
-chunk_at (suc k) (suc i) xs d h =
-    let e : 5 + i * 5 ≡ suc i * 5 = omega arith in
-    chunk_at k i (drop 5 xs) d (omega arith) ∙ ap (take 5) (drop-drop (i * 5) 5 xs ∙ ap (λ (t : ℕ). drop t xs) e)
-
-pub chunk_event : (k i : ℕ) (xs d : List ℕ) → i < k → event_at (get_or (first_chunks 5 k xs) i d) 0 ≡ event_at xs (i * 5)
-chunk_event k i xs d h =
-    ap (λ (ns : List ℕ). event_at ns 0) (chunk_at k i xs d h)
-    ∙ event_from (take 5 (drop (i * 5) xs)) xs 0 (i * 5) (λ j g. search (rules, places))
 
 -- two slots of one turn are apart
 pub apart : (s i k : ℕ) → i < capacity → k < capacity → (k ≡ i → ⊥) → (s + k) % capacity ≢ (s + i) % capacity

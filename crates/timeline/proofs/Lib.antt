@@ -1,4 +1,5 @@
 mod Placing
+pub mod Chunks
 mod Cells
 mod Runs
 mod Puts

@@ -1,6 +1,6 @@
 use Rattle.std.proofs.Common.{◌*◌, [], get_or, ap, ◌∙◌, arith}
 use Rattle.timeline.specs.Ring.{event_at}
-use Rattle.timeline.proofs.Cells.{chunk_event}
+use Rattle.timeline.proofs.Chunks.{chunk_event}
 use Rattle.timeline.proofs.spans.Span.get.Goals as goal
 
 pub returns : goal.returns
