@@ -1,5 +1,5 @@
 mod Placing
-pub mod Chunks
+mod Chunks
 mod Cells
 mod Runs
 mod Puts
