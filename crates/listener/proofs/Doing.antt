@@ -1,7 +1,8 @@
 -- What the code does is what the machine does, case by case, over plain variables.
-use Rattle.std.proofs.Common.{◌≡◌, ℕ, ◌+◌, ◌-◌, ◌%◌, ◌<◌, ◌≤◌, Bool, List, ◌++◌, length, get_or, take, drop, Some, None, Option, Ok, Result, sym, refl, ap, ◌∙◌, subst, ap₂, arith, le-ltb, lt-ltb}
+use Rattle.std.proofs.Common.{◌≡◌, ℕ, ◌+◌, ◌-◌, ◌%◌, ◌<◌, ◌≤◌, Bool, true, false, ltb, max, List, ◌++◌, length, get_or, take, drop, Some, None, Option, Ok, Result, sym, refl, ap, ◌∙◌, subst, ap₂, arith, le-ltb, lt-ltb}
 use Rattle.std.proofs.lemmas.List.{length-take-le}
 use Rattle.std.proofs.lemmas.Bool.Decides.{nat_tests as by_tests}
+use mir.Val.{bool_byte}
 use Rattle.timeline.specs.declared.events.Event.{Event}
 use Rattle.timeline.specs.Lists.{pick}
 use Rattle.timeline.specs.Ring.{capacity, events, with_forgotten}
@@ -17,7 +18,7 @@ use Rattle.listener.specs.declared.head.Head.{Head}
 use Rattle.listener.specs.declared.head.Turn.TheVariants.{Late, Full, Counts}
 use Rattle.listener.specs.declared.acts.Told.{Told}
 use Rattle.listener.specs.declared.acts.Refusal.{Refusal}
-use Rattle.listener.specs.declared.acts.Told.TheVariants.{Row}
+use Rattle.listener.specs.declared.acts.Told.TheVariants.{Row, Waits, Over as ToldOver}
 use Rattle.listener.specs.Engine.{Act, tells, waits, Stepped}
 use Rattle.listener.specs.Machine.{memory_long, no_places, memory_of, cells_of, ring_of, room, stale_with, counting, hear, settled_head, settled, phase_after, act_after, with_places, told_or_settled, tell_from, below_run, ring_with, len_with, turned}
 use Rattle.listener.specs.Entry.{ActTold, Did}
@@ -27,6 +28,13 @@ pub did : (st : Stepped) (a : Act) (t : Result Told Refusal) (m₁ out out₁ : 
 did st a t m₁ out out₁ e q h = record { memory = e; told = subst (λ (x : Act). ActTold x t out out₁) (sym q) h }
 
 -- HEARING
+pub greater : (a b : ℕ) → max a b ≡ pick (ltb a b) b a
+greater a b = grind (arith, by_tests)
+
+pub one_if : (b : Bool) → bool_byte b ≡ pick b 1 0
+one_if true = refl
+one_if false = refl
+
 module _ (p : Pattern) (h : Head) (es : List Event) (e : Event) where
   pub hears_late : e.time < h.latest - p.late → Late ≡ hear p h es e
   unfolding hear
@@ -49,6 +57,20 @@ rest_waits Telling n = (refl, refl)
 rest_waits Ending n = absurd (n refl)
 rest_waits Done n = (refl, refl)
 
+-- what it does next, and says, once all rows are told
+abbrev pub After : Phase → Phase × Told → Type 0
+After ph next = (next.0 ≡ phase_after ph) × ((out : List ℕ) → ActTold (act_after ph) (Ok next.1) out out)
+
+pub after_ending : (ph : Phase) (next : Phase × Told) → ph ≡ Ending → next ≡ (Done, ToldOver) → After ph next
+unfolding ActTold
+after_ending ph next is what = rw (is, what) (refl, λ out. (refl, refl))
+
+pub after_others : (ph : Phase) (next : Phase × Told) → (ph ≡ Ending → ⊥) → next ≡ (Waiting, Waits) → After ph next
+unfolding ActTold
+after_others ph next n what =
+    let rest = rest_waits ph n in
+    rw what (sym rest.0, λ out. subst (λ (act : Act). ActTold act (Ok Waits) out out) (sym rest.1) (refl, refl))
+
 abbrev pub settled_to : Head → ℕ → ℕ → ℕ → Head
 settled_to h start len known =
     record { count = h.count; latest = h.latest; start = start; len = len; known = known; upto = 0; stale = 0; at = no_places }
@@ -64,6 +86,18 @@ settles m m₁ h ph start len known long e (a, b) k =
     ap₂ (λ (x y : List ℕ). memory_of ph (settled_to h start len known) x y) (ap cells_of e ∙ cells_stay m r long) (ap ring_of e ∙ ring_there m r long)
     ∙ ap₂ (λ (x y : ℕ). memory_of ph (settled_to h x y known) (cells_of m) r) a b
     ∙ ap (λ (x : ℕ). memory_of ph (settled_to h ((h.start + h.stale) % capacity) (h.len - h.stale) x) (cells_of m) r) k
+
+pub settled_does :
+    (m m₁ m₂ out : List ℕ) (h : Head) (ph : Phase) (next : Phase × Told) (start len known : ℕ) → After ph next → length m ≡ memory_long
+    → m₁ ≡ take 419 m ++ with_forgotten (ring_of m) h.start h.stale → start ≡ (h.start + h.stale) % capacity → len ≡ h.len - h.stale → known ≡ h.upto - h.stale
+    → m₂ ≡ memory_of next.0 (settled_to h start len known) (cells_of m₁) (ring_of m₁) → Did (settled ph h (cells_of m) (ring_of m)) (Ok next.1) m₂ out out
+settled_does m m₁ m₂ out h ph next start len known after long e a b k stored =
+    record {
+      memory =
+          stored ∙ settles m m₁ h next.0 start len known long e (a, b) k
+          ∙ ap (λ (ph : Phase). memory_of ph (settled_head h) (cells_of m) (with_forgotten (ring_of m) h.start h.stale)) after.0;
+      told = after.1 out;
+    }
 
 -- TELLING
 module _ (ph : Phase) (h : Head) (cells ring : List ℕ) (c : Cursor) where
@@ -86,7 +120,7 @@ module _ (ph : Phase) (h : Head) (cells ring : List ℕ) (c : Cursor) where
   unfolding ActTold
   row_told xs out out₁ k n e l s w =
       let long : length (take k xs) ≡ k = length-take-le k xs (omega arith) in
-      (ap (λ (x : ℕ). Ok (Row x)) (e ∙ sym long), w ∙ ap (λ (x : ℕ). take x xs ++ drop x out) e ∙ ap (λ (x : ℕ). take k xs ++ drop x out) (sym long))
+      (ap (λ (x : ℕ). Ok (Row x)) (e ∙ sym long), omega (arith, long), w ∙ ap (λ (x : ℕ). take x xs ++ drop x out) e ∙ ap (λ (x : ℕ). take k xs ++ drop x out) (sym long))
 
   pub tells_row :
       (f : Found) (n : ℕ) (m₁ out out₁ : List ℕ) → Some f ≡ found → n ≡ kept_count cells → length f.numbers ≡ 6

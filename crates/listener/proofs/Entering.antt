@@ -1,6 +1,6 @@
 -- One step as the world outside sees it: what is told by a number, and which calls fit.
-use Rattle.std.proofs.Common.{◌≡◌, ℕ, ◌<◌, ◌≤◌, Bool, true, false, ◌&&◌, eqb, leb, List, Result, Err, length, get_or, sym, refl, ap, ◌∙◌, subst, arith}
-use Rattle.std.proofs.lemmas.List.{length-replicate}
+use Rattle.std.proofs.Common.{◌≡◌, ℕ, ◌<◌, ◌≤◌, Bool, true, false, ◌&&◌, eqb, leb, List, Result, Err, ◌++◌, length, get_or, take, drop, sym, refl, ap, ◌∙◌, subst, arith}
+use Rattle.std.proofs.lemmas.List.{length-replicate, drop-append-le, length-take-le, append_assoc, take-append-drop}
 use Rattle.std.proofs.lemmas.Bool.Decides.{nat_tests as by_tests}
 use Rattle.patterns.specs.Numbers.{pattern_in}
 use Rattle.listener.specs.declared.acts.Told.{Told}
@@ -8,7 +8,7 @@ use Rattle.listener.specs.declared.acts.Refusal.{Refusal}
 use Rattle.listener.specs.declared.acts.Refusal.TheVariants.{Misfit}
 use Rattle.listener.specs.declared.acts.Call.{Call}
 use Rattle.listener.specs.declared.acts.Call.TheVariants.{Pattern, Event, End, Next}
-use Rattle.listener.specs.Engine.{Stepped}
+use Rattle.listener.specs.Engine.{Act, tells, waits, late, over, refused, Stepped}
 use Rattle.listener.specs.Machine.{memory_long, begun, came, ended, gone_on, machine, own}
 use Rattle.listener.specs.Entry.{call_number, told_of, ActTold, Did, StepSays, step_fits}
 use Rattle.listener.proofs.Steps.{own_is}
@@ -58,17 +58,37 @@ one_misfits : (a b k r o : ℕ) → (a ≡ b → k ≤ 3 → r ≤ 1024 → o < 
 unfolding fits
 one_misfits a b k r o h = grind (arith, by_tests)
 
+-- what was answered with the first six of the lent row is answered with the whole
+widened :
+    (a : Act) (t : Result Told Refusal) (out first₁ : List ℕ) → 6 ≤ length out → ActTold a t (take 6 out) first₁ → ActTold a t out (first₁ ++ drop 6 out)
+unfolding ActTold
+widened (tells r) t out first₁ long d =
+    let joined : drop (length r) (take 6 out ++ drop 6 out) ≡ drop (length r) (take 6 out) ++ drop 6 out =
+    drop-append-le (length r) (take 6 out) (drop 6 out) (omega (arith, d.1, length-take-le 6 out long)) in (
+      d.0,
+      d.1,
+      ap (λ (x : List ℕ). x ++ drop 6 out) d.2 ∙ append_assoc r (drop (length r) (take 6 out)) (drop 6 out)
+          ∙ ap (λ (x : List ℕ). r ++ x) (sym joined ∙ ap (drop (length r)) (take-append-drop 6 out)),
+    )
+widened waits t out first₁ long d = (d.0, ap (λ (x : List ℕ). x ++ drop 6 out) d.1 ∙ take-append-drop 6 out)
+widened late t out first₁ long d = (d.0, ap (λ (x : List ℕ). x ++ drop 6 out) d.1 ∙ take-append-drop 6 out)
+widened over t out first₁ long d = (d.0, ap (λ (x : List ℕ). x ++ drop 6 out) d.1 ∙ take-append-drop 6 out)
+widened (refused k) t out first₁ long d = (d.0, ap (λ (x : List ℕ). x ++ drop 6 out) d.1 ∙ take-append-drop 6 out)
+
 module _ (m row out : List ℕ) (k : ℕ) where
   pub steps :
-      (call : Call) (t : Result Told Refusal) (m₁ out₁ : List ℕ) → call_number call ≡ k → length m ≡ memory_long → length row ≤ 1024 → 6 ≤ length out
-      → Did (machine m (told_of (call_number call) row)) t m₁ out out₁ → StepSays m k row out (step_fits m k row out) t m₁ out₁
+      (call : Call) (t : Result Told Refusal) (m₁ first₁ : List ℕ) → call_number call ≡ k → length m ≡ memory_long → length row ≤ 1024 → 6 ≤ length out
+      → Did (machine m (told_of (call_number call) row)) t m₁ (take 6 out) first₁ → StepSays m k row out (step_fits m k row out) t m₁ (first₁ ++ drop 6 out)
   unfolding StepSays
-  steps call t m₁ out₁ is_call long r o d_call =
-      let d : Did (machine m (told_of k row)) t m₁ out out₁ = subst (λ (n : ℕ). Did (machine m (told_of n row)) t m₁ out out₁) is_call d_call in
-      let l : k ≤ 3 = subst (λ (n : ℕ). n ≤ 3) is_call (call_most call) in
-      let yes : step_fits m k row out ≡ true = fits_is m row out k ∙ all_fit (length m) memory_long k (length row) (length out) long l r o in
+  steps call t m₁ first₁ is_call long l r d_call =
+      let d : Did (machine m (told_of k row)) t m₁ (take 6 out) first₁ = subst (λ (n : ℕ). Did (machine m (told_of n row)) t m₁ (take 6 out) first₁) is_call d_call in
+      let most : k ≤ 3 = subst (λ (n : ℕ). n ≤ 3) is_call (call_most call) in
+      let yes : step_fits m k row out ≡ true = fits_is m row out k ∙ all_fit (length m) memory_long k (length row) (length out) long most l r in
       let is = own_is m (told_of k row) long in
-      rw yes (d.memory ∙ ap (λ (st : Stepped). st.memory) (sym is), subst (λ (st : Stepped). ActTold st.act t out out₁) (sym is) d.told)
+      rw yes (
+        d.memory ∙ ap (λ (st : Stepped). st.memory) (sym is),
+        subst (λ (st : Stepped). ActTold st.act t out (first₁ ++ drop 6 out)) (sym is) (widened (machine m (told_of k row)).act t out first₁ r d.told),
+      )
 
   pub misfits : (length m ≡ memory_long → k ≤ 3 → length row ≤ 1024 → length out < 6) → StepSays m k row out (step_fits m k row out) (Err Misfit) m out
   unfolding StepSays

@@ -1,6 +1,6 @@
 -- How a step of the listener is told to the world outside: what it is told by numbers, and the answer to each act.
 -- Assumes nothing: these are definitions.
-use Rattle.std.specs.Prelude.{◌≡◌, ℕ, ◌<◌, Bool, true, false, ◌&&◌, List, ◌++◌, length, drop, Result, Ok, Err, IsErrAnd, MatchResult, ◌==◌, nat_le, slice_index}
+use Rattle.std.specs.Prelude.{◌≡◌, ℕ, ◌<◌, ◌≤◌, Bool, true, false, ◌&&◌, List, ◌++◌, length, drop, Result, Ok, Err, IsErrAnd, MatchResult, ◌==◌, nat_le, slice_index}
 use Rattle.timeline.specs.Lists.{pick}
 use Rattle.patterns.specs.Numbers.{pattern_in}
 use Rattle.listener.specs.Engine.{ToldIt, begins, comes, ends, next, Act, tells, waits, late, over, refused, Stepped}
@@ -36,9 +36,9 @@ told_of k xs =
     pick (k == 0) (begins (pattern_in xs))
     (pick (k == 1) (comes (slice_index xs 0) (slice_index xs 1) (slice_index xs 2) (slice_index xs 3)) (pick (k == 2) ends next))
 
--- the answer to an act, and what the lent row holds then
+-- the answer to an act, and what the lent row holds then: a row that is told stands in front of it
 unfoldable pub ActTold : Act → Result Told Refusal → (out out₁ : List ℕ) → Type 0
-ActTold (tells r) t out out₁ = (t ≡ Ok (Row (length r))) × (out₁ ≡ r ++ drop (length r) out)
+ActTold (tells r) t out out₁ = (t ≡ Ok (Row (length r))) × (length r ≤ 6) × (out₁ ≡ r ++ drop (length r) out)
 ActTold waits t out out₁ = (t ≡ Ok Waits) × (out₁ ≡ out)
 ActTold late t out out₁ = (t ≡ Ok Late) × (out₁ ≡ out)
 ActTold over t out out₁ = (t ≡ Ok Over) × (out₁ ≡ out)

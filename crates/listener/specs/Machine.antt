@@ -81,6 +81,12 @@ pub record Bounded (h : Head) : Type 0 where
   pub upto : h.upto ≤ h.len
   pub stale : h.stale ≤ h.len
 
+-- its events lie in the ring, and no more are stale than there are
+pub record InRing (h : Head) : Type 0 where
+  pub start : h.start < capacity
+  pub len : h.len ≤ capacity
+  pub stale : h.stale ≤ h.len
+
 -- what a state is known by in which rows are about to be told
 pub record Ready (h : Head) : Type 0 where
   pub latest : h.latest < 4611686018427387904

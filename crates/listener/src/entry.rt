@@ -6,17 +6,15 @@ ghost use Rattle.listener.specs.Machine.{memory_long, begun, came, ended, gone_o
 ghost use Rattle.listener.specs.Entry.{Did, call_number, told_of, StepSays, step_fits};
 
 use crate::acts::{Call, Refusal, Told};
-use crate::head::{CELLS, Head, LIMIT, MEMORY_LONG, Phase, RING, Turn};
+use crate::head::{CELLS, Head, LIMIT, MEMORY_LONG, Phase, RING, ROW_LONG, Turn};
 use crate::memory::pattern_in;
 use crate::turns::{begin_at, count, hear, tell};
 use patterns::keep;
 use rows::Cursor;
 use timeline::Event;
 
-// A row has at most so many numbers, and a lent row at least as many as a pattern has steps.
+// A row that the listener is told has at most so many numbers.
 const ROW_MOST: usize = 1024;
-
-const OUT_LEAST: usize = 6;
 
 const KINDS: u64 = 65536;
 
@@ -24,7 +22,7 @@ const KINDS: u64 = 65536;
 fn number_at(row: &[u64], i: usize) -> u64
     ensures { result ≡ slice_index row.now i }
 {
-    if i < row.len() { row[i] } else { 0 }
+    row.get(i).copied().unwrap_or(0)
 }
 
 // An event of a row of four numbers, with its number.
@@ -48,8 +46,11 @@ fn is_event(e: Event) -> bool
 }
 
 // It is given a pattern.
-fn begin(memory: &mut [u64], row: &[u64], out: &mut [u64]) -> Result<Told, Refusal>
-    requires { length memory.old ≡ memory_long }
+fn begin(
+    memory: &mut [u64; MEMORY_LONG],
+    row: &[u64],
+    out: &mut [u64; ROW_LONG],
+) -> Result<Told, Refusal>
     ensures { Did (begun memory.old (pattern_in row.now)) result memory.new out.old out.new }
 {
     let Some(_) = Head::in_phase(memory, Phase::New) else {
@@ -63,8 +64,11 @@ fn begin(memory: &mut [u64], row: &[u64], out: &mut [u64]) -> Result<Told, Refus
 }
 
 // It is told of an event.
-fn come(memory: &mut [u64], row: &[u64], out: &mut [u64]) -> Result<Told, Refusal>
-    requires { (length memory.old ≡ memory_long) × (6 ≤ length out.old) }
+fn come(
+    memory: &mut [u64; MEMORY_LONG],
+    row: &[u64],
+    out: &mut [u64; ROW_LONG],
+) -> Result<Told, Refusal>
     ensures { Did (came memory.old (slice_index row.now 0) (slice_index row.now 1) (slice_index row.now 2) (slice_index row.now 3)) result memory.new out.old out.new }
 {
     let Some(head) = Head::in_phase(memory, Phase::Waiting) else {
@@ -84,13 +88,12 @@ fn come(memory: &mut [u64], row: &[u64], out: &mut [u64]) -> Result<Told, Refusa
             head.store(memory, Phase::Over);
             Err(Refusal::NoRoom)
         }
-        Turn::Counts(head, named) => count(memory, head, e, named, out),
+        Turn::Counts { head, named } => count(memory, head, e, named, out),
     }
 }
 
 // Nothing more comes.
-fn finish(memory: &mut [u64], out: &mut [u64]) -> Result<Told, Refusal>
-    requires { (length memory.old ≡ memory_long) × (6 ≤ length out.old) }
+fn finish(memory: &mut [u64; MEMORY_LONG], out: &mut [u64; ROW_LONG]) -> Result<Told, Refusal>
     ensures { Did (ended memory.old) result memory.new out.old out.new }
 {
     let Some(head) = Head::in_phase(memory, Phase::Waiting) else {
@@ -105,8 +108,7 @@ fn finish(memory: &mut [u64], out: &mut [u64]) -> Result<Told, Refusal>
 }
 
 // The cursor behind the row that was told last.
-fn cursor_of(memory: &[u64], head: Head) -> Cursor
-    requires { length memory.now ≡ memory_long }
+fn cursor_of(memory: &[u64; MEMORY_LONG], head: Head) -> Cursor
     ensures { result ≡ cursor_of (cells_of memory.now) head }
 {
     let depth = pattern_in(memory).steps().saturating_sub(1);
@@ -115,8 +117,7 @@ fn cursor_of(memory: &[u64], head: Head) -> Cursor
 }
 
 // It is to go on telling.
-fn go_on(memory: &mut [u64], out: &mut [u64]) -> Result<Told, Refusal>
-    requires { (length memory.old ≡ memory_long) × (6 ≤ length out.old) }
+fn go_on(memory: &mut [u64; MEMORY_LONG], out: &mut [u64; ROW_LONG]) -> Result<Told, Refusal>
     ensures { Did (gone_on memory.old) result memory.new out.old out.new }
 {
     if let Some(head) = Head::in_phase(memory, Phase::Telling) {
@@ -130,8 +131,12 @@ fn go_on(memory: &mut [u64], out: &mut [u64]) -> Result<Told, Refusal>
     tell(memory, Phase::Ending, head, cursor, out)
 }
 
-fn act(memory: &mut [u64], call: Call, row: &[u64], out: &mut [u64]) -> Result<Told, Refusal>
-    requires { (length memory.old ≡ memory_long) × (6 ≤ length out.old) }
+fn act(
+    memory: &mut [u64; MEMORY_LONG],
+    call: Call,
+    row: &[u64],
+    out: &mut [u64; ROW_LONG],
+) -> Result<Told, Refusal>
     ensures { Did (machine memory.old (told_of (call_number call) row.now)) result memory.new out.old out.new }
 {
     match call {
@@ -148,8 +153,14 @@ pub fn step(memory: &mut [u64], kind: u64, row: &[u64], out: &mut [u64]) -> Resu
     ensures { StepSays memory.old kind row.now out.old (step_fits memory.old kind row.now out.old) result memory.new out.new }
 {
     let call = Call::try_from(kind)?;
-    if memory.len() != MEMORY_LONG || row.len() > ROW_MOST || out.len() < OUT_LEAST {
+    if row.len() > ROW_MOST {
         return Err(Refusal::Misfit);
     }
+    let Some(memory) = memory.as_mut_array() else {
+        return Err(Refusal::Misfit);
+    };
+    let Some(out) = out.first_chunk_mut() else {
+        return Err(Refusal::Misfit);
+    };
     act(memory, call, row, out)
 }

@@ -1,6 +1,6 @@
 // The words in front of the memory: what the listener is doing, and where.
-ghost use Rattle.std.specs.Prelude.{◌≡◌, length, IfSome};
-ghost use Rattle.listener.specs.Machine.{memory_long, phase_number, memory_of, head_of, cells_of, ring_of, a_head, Bounded, head_at};
+ghost use Rattle.std.specs.Prelude.{◌≡◌, ◌∷◌, IfSome};
+ghost use Rattle.listener.specs.Machine.{phase_number, head_words, memory_of, head_of, cells_of, ring_of, a_head, Bounded, head_at};
 
 use timeline::CAPACITY;
 
@@ -11,6 +11,9 @@ pub const CELLS: usize = 14;
 
 pub const RING: usize = 419;
 
+// A row that is told has at most so many numbers: as many as a pattern has steps.
+pub const ROW_LONG: usize = 6;
+
 // At most so many events are held between two events.
 pub const ROOM: usize = 8192;
 
@@ -18,7 +21,7 @@ pub const ROOM: usize = 8192;
 pub const LIMIT: u64 = 4611686018427387904;
 
 // What the listener is doing between two acts.
-#[derive(Clone, Copy)]
+#[derive(Clone, Copy, PartialEq, Eq, Debug)]
 pub enum Phase {
     // It has no pattern yet.
     New,
@@ -31,11 +34,11 @@ pub enum Phase {
     Over,
 }
 
-impl Phase {
-    fn number(self) -> u64
-        ensures { result ≡ phase_number self }
-    {
-        match self {
+impl From<Phase> for u64 {
+    ghost from_gives = { λ phase number. number ≡ phase_number phase };
+
+    fn from(phase: Phase) -> u64 {
+        match phase {
             Phase::New => 0,
             Phase::Waiting => 1,
             Phase::Telling => 2,
@@ -46,7 +49,7 @@ impl Phase {
 }
 
 // The listener's state, but for its phase, its pattern and the events that it holds.
-#[derive(Clone, Copy)]
+#[derive(Clone, Copy, PartialEq, Eq, Debug)]
 pub struct Head {
     // How many events came.
     pub count: u64,
@@ -90,71 +93,90 @@ impl Head {
             && self.stale <= self.len
     }
 
-    fn load(memory: &[u64]) -> Head
-        requires { length memory.now ≡ memory_long }
+    fn load(memory: &[u64; MEMORY_LONG]) -> Head
         ensures { result ≡ head_of memory.now }
     {
+        let [
+            _,
+            count,
+            latest,
+            start,
+            len,
+            known,
+            upto,
+            stale,
+            a,
+            b,
+            c,
+            d,
+            e,
+            f,
+            ..
+        ] = *memory;
         Head {
-            count: memory[1],
-            latest: memory[2],
-            start: memory[3] as usize,
-            len: memory[4] as usize,
-            known: memory[5] as usize,
-            upto: memory[6] as usize,
-            stale: memory[7] as usize,
+            count,
+            latest,
+            start: start as usize,
+            len: len as usize,
+            known: known as usize,
+            upto: upto as usize,
+            stale: stale as usize,
             at: [
-                memory[8] as usize,
-                memory[9] as usize,
-                memory[10] as usize,
-                memory[11] as usize,
-                memory[12] as usize,
-                memory[13] as usize,
+                a as usize, b as usize, c as usize, d as usize, e as usize, f as usize,
             ],
         }
     }
 
     // The state, where it is one and the phase is this.
-    pub fn in_phase(memory: &[u64], phase: Phase) -> Option<Head>
-        requires { length memory.now ≡ memory_long }
+    pub fn in_phase(memory: &[u64; MEMORY_LONG], phase: Phase) -> Option<Head>
         ensures value { result ≡ head_at phase memory.now }
         ensures bound { IfSome result Bounded }
     {
         let head = Head::load(memory);
-        if memory[0] == phase.number() && head.holds() {
+        if memory[0] == u64::from(phase) && head.holds() {
             Some(head)
         } else {
             None
         }
     }
 
-    pub fn store(self, memory: &mut [u64], phase: Phase)
-        requires { length memory.old ≡ memory_long }
+    // The words in which it stands, behind that of the phase.
+    fn words(self, phase: Phase) -> [u64; CELLS]
+        ensures { result ≡ phase_number phase ∷ head_words self }
+    {
+        let [a, b, c, d, e, f] = self.at;
+        [
+            u64::from(phase),
+            self.count,
+            self.latest,
+            self.start as u64,
+            self.len as u64,
+            self.known as u64,
+            self.upto as u64,
+            self.stale as u64,
+            a as u64,
+            b as u64,
+            c as u64,
+            d as u64,
+            e as u64,
+            f as u64,
+        ]
+    }
+
+    pub fn store(self, memory: &mut [u64; MEMORY_LONG], phase: Phase)
         ensures { memory.new ≡ memory_of phase self (cells_of memory.old) (ring_of memory.old) }
     {
-        memory[0] = phase.number();
-        memory[1] = self.count;
-        memory[2] = self.latest;
-        memory[3] = self.start as u64;
-        memory[4] = self.len as u64;
-        memory[5] = self.known as u64;
-        memory[6] = self.upto as u64;
-        memory[7] = self.stale as u64;
-        memory[8] = self.at[0] as u64;
-        memory[9] = self.at[1] as u64;
-        memory[10] = self.at[2] as u64;
-        memory[11] = self.at[3] as u64;
-        memory[12] = self.at[4] as u64;
-        memory[13] = self.at[5] as u64;
+        memory[..CELLS].copy_from_slice(&self.words(phase));
     }
 }
 
 // What follows of an event that comes.
-#[derive(Clone, Copy)]
+#[derive(Clone, Copy, PartialEq, Eq, Debug)]
 pub enum Turn {
     // It is too late.
     Late,
     // More would have to be held than there is room for.
     Full,
-    // It counts: the state then, and whether the event itself has to be held.
-    Counts(Head, bool),
+    // It counts: the state then, and whether the pattern names the event, so that it has to be held.
+    Counts { head: Head, named: bool },
 }

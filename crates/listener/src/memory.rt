@@ -2,15 +2,14 @@
 ghost use Rattle.std.specs.Prelude.{◌≡◌, ◌+◌, ◌-◌, ◌%◌, ◌<◌, ◌≤◌, true, ◌++◌, length, take, drop};
 ghost use Rattle.timeline.specs.Ring.{capacity, events as events_of, with_put, with_forgotten};
 ghost use Rattle.patterns.specs.Kept.{kept_pattern};
-ghost use Rattle.listener.specs.Machine.{memory_long, cells_of, ring_of, below_run};
+ghost use Rattle.listener.specs.Machine.{memory_long, cells_of, ring_of, below_run, InRing};
 
 use crate::head::{CELLS, Head, MEMORY_LONG, RING};
 use patterns::Kept;
 use timeline::{Event, Span, at, forget, put};
 
 // The pattern.
-pub fn pattern_in(memory: &[u64]) -> Kept<'_>
-    requires { length memory.now ≡ memory_long }
+pub fn pattern_in(memory: &[u64; MEMORY_LONG]) -> Kept<'_>
     ensures { result.words.now ≡ cells_of memory.now }
 {
     match Kept::over(&memory[CELLS..RING]) {
@@ -21,8 +20,9 @@ pub fn pattern_in(memory: &[u64]) -> Kept<'_>
 
 // Which slots of the ring are held.
 pub fn span_of(head: Head) -> Span
-    requires { (head.start < capacity) × (head.len ≤ capacity) }
-    ensures { (result.start ≡ head.start) × (result.len ≡ head.len) }
+    requires { InRing head }
+    ensures start { result.start ≡ head.start }
+    ensures len { result.len ≡ head.len }
 {
     match Span::new(head.start, head.len) {
         Some(span) => span,
@@ -31,14 +31,16 @@ pub fn span_of(head: Head) -> Span
 }
 
 // The first position from one on whose event has a time that is not below a bound.
-pub fn run_below(memory: &[u64], head: Head, from: usize, bound: u64) -> usize
-    requires { (length memory.now ≡ memory_long) × ((head.start < capacity) × ((head.len ≤ capacity) × (from ≤ head.len))) }
+pub fn run_below(memory: &[u64; MEMORY_LONG], head: Head, from: usize, bound: u64) -> usize
+    requires in_ring { InRing head }
+    requires from { from ≤ head.len }
     ensures value { result ≡ from + below_run bound (drop from (events_of (ring_of memory.now) head.start head.len)) }
-    ensures bound { (from ≤ result) × (result ≤ head.len) }
+    ensures from { from ≤ result }
+    ensures len { result ≤ head.len }
 {
     let span = span_of(head);
     let mut i = from;
-    while let Some(e) = at(&memory[RING..MEMORY_LONG], span, i) {
+    while let Some(e) = at(&memory[RING..], span, i) {
         if e.time >= bound {
             break;
         }
@@ -48,23 +50,25 @@ pub fn run_below(memory: &[u64], head: Head, from: usize, bound: u64) -> usize
 }
 
 // Puts an event into the ring where it belongs.
-pub fn hold(memory: &mut [u64], head: Head, e: Event)
-    requires { (length memory.old ≡ memory_long) × ((head.start < capacity) × (head.len < capacity)) }
+pub fn hold(memory: &mut [u64; MEMORY_LONG], head: Head, e: Event)
+    requires in_ring { InRing head }
+    requires room { head.len < capacity }
     ensures { memory.new ≡ take 419 memory.old ++ with_put (ring_of memory.old) head.start head.len e }
 {
-    match put(&mut memory[RING..MEMORY_LONG], span_of(head), e) {
+    match put(&mut memory[RING..], span_of(head), e) {
         Some(_) => (),
         None => unreachable(),
     }
 }
 
 // Forgets the stale events; which slots are held then.
-pub fn forget_stale(memory: &mut [u64], head: Head) -> Span
-    requires { (length memory.old ≡ memory_long) × ((head.start < capacity) × ((head.len ≤ capacity) × (head.stale ≤ head.len))) }
+pub fn forget_stale(memory: &mut [u64; MEMORY_LONG], head: Head) -> Span
+    requires { InRing head }
     ensures after { memory.new ≡ take 419 memory.old ++ with_forgotten (ring_of memory.old) head.start head.stale }
-    ensures value { (result.start ≡ (head.start + head.stale) % capacity) × (result.len ≡ head.len - head.stale) }
+    ensures start { result.start ≡ (head.start + head.stale) % capacity }
+    ensures len { result.len ≡ head.len - head.stale }
 {
-    match forget(&mut memory[RING..MEMORY_LONG], span_of(head), head.stale) {
+    match forget(&mut memory[RING..], span_of(head), head.stale) {
         Some(span) => span,
         None => unreachable(),
     }

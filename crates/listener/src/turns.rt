@@ -6,38 +6,19 @@ ghost use Rattle.patterns.specs.Kept.{kept_pattern};
 ghost use Rattle.rows.specs.Finding.{next_found};
 ghost use Rattle.rows.specs.SearchLaws.{begin_at};
 ghost use Rattle.listener.specs.declared.head.Turn.TheVariants.{Counts};
-ghost use Rattle.listener.specs.Machine.{memory_long, cells_of, ring_of, Bounded, Ready, ReadyTurn, latest_with, settled, tell_from, ring_with, len_with, turned, hear as hear_of};
+ghost use Rattle.listener.specs.Machine.{memory_long, cells_of, ring_of, Bounded, InRing, Ready, ReadyTurn, latest_with, settled, tell_from, ring_with, len_with, turned, hear as hear_of};
 ghost use Rattle.listener.specs.Entry.{Did};
 
 use crate::acts::{Refusal, Told};
-use crate::head::{Head, MEMORY_LONG, Phase, RING, ROOM, Turn};
+use crate::head::{Head, MEMORY_LONG, Phase, RING, ROOM, ROW_LONG, Turn};
 use crate::memory::{forget_stale, hold, pattern_in, run_below, span_of};
 use rows::{Cursor, Found, next_row};
 use timeline::{Event, parts};
 
-// The greatest time once an event has counted.
-fn latest_with(head: Head, e: Event) -> u64
-    ensures { result ≡ latest_with head e }
-{
-    if head.latest < e.time {
-        e.time
-    } else {
-        head.latest
-    }
-}
-
-// How many events have to be held when the stale ones are forgotten, with one that is named by the pattern.
-fn stays(len: usize, stale: usize, named: bool) -> usize
-    requires { (stale ≤ len) × (len ≤ capacity) }
-    ensures { result ≡ len - stale + pick named 1 0 }
-{
-    let len = len - stale;
-    if named { len + 1 } else { len }
-}
-
 // What an event brings about: it is too late, there is no room, or it counts. It looks at the stale events alone, and changes nothing.
-pub fn hear(memory: &[u64], head: Head, e: Event) -> Turn
-    requires { (length memory.now ≡ memory_long) × ((Bounded head) × (e.time < 4611686018427387904)) }
+pub fn hear(memory: &[u64; MEMORY_LONG], head: Head, e: Event) -> Turn
+    requires bounded { Bounded head }
+    requires time { e.time < 4611686018427387904 }
     ensures bound { ReadyTurn result }
     ensures value { result ≡ hear_of (kept_pattern (cells_of memory.now)) head (events_of (ring_of memory.now) head.start head.len) e }
 {
@@ -46,28 +27,31 @@ pub fn hear(memory: &[u64], head: Head, e: Event) -> Turn
     if e.time < head.latest.saturating_sub(late) {
         return Turn::Late;
     }
-    let latest = latest_with(head, e);
+    let latest = head.latest.max(e.time);
     let oldest = latest.saturating_sub(late).saturating_sub(pattern.within());
     let stale = run_below(memory, head, 0, oldest);
     let named = pattern.is_named(e.kind);
-    if stays(head.len, stale, named) > ROOM {
+    if head.len - stale + usize::from(named) > ROOM {
         return Turn::Full;
     }
     let count = head.count + 1;
-    Turn::Counts(
-        Head {
-            count,
-            latest,
-            stale,
-            ..head
-        },
-        named,
-    )
+    let head = Head {
+        count,
+        latest,
+        stale,
+        ..head
+    };
+    Turn::Counts { head, named }
 }
 
 // All rows are told: what is stale is forgotten, and the listener waits, or is over.
-fn settle(memory: &mut [u64], phase: Phase, head: Head, out: &mut [u64]) -> Result<Told, Refusal>
-    requires { (length memory.old ≡ memory_long) × ((head.start < capacity) × ((head.len ≤ capacity) × (head.stale ≤ head.len))) }
+fn settle(
+    memory: &mut [u64; MEMORY_LONG],
+    phase: Phase,
+    head: Head,
+    out: &mut [u64; ROW_LONG],
+) -> Result<Told, Refusal>
+    requires { InRing head }
     ensures { Did (settled phase head (cells_of memory.old) (ring_of memory.old)) result memory.new out.old out.new }
 {
     let span = forget_stale(memory, head);
@@ -80,32 +64,28 @@ fn settle(memory: &mut [u64], phase: Phase, head: Head, out: &mut [u64]) -> Resu
         at: [0; 6],
         ..head
     };
-    match phase {
-        Phase::Ending => {
-            head.store(memory, Phase::Over);
-            Ok(Told::Over)
-        }
-        _ => {
-            head.store(memory, Phase::Waiting);
-            Ok(Told::Waits)
-        }
-    }
+    let (next, told) = match phase {
+        Phase::Ending => (Phase::Over, Told::Over),
+        _ => (Phase::Waiting, Told::Waits),
+    };
+    head.store(memory, next);
+    Ok(told)
 }
 
 // The next row from a cursor on.
-fn next_in(memory: &[u64], head: Head, cursor: Cursor) -> Option<Found>
-    requires { (length memory.now ≡ memory_long) × ((head.start < capacity) × (head.len ≤ capacity)) }
+fn next_in(memory: &[u64; MEMORY_LONG], head: Head, cursor: Cursor) -> Option<Found>
+    requires { InRing head }
     ensures { result ≡ next_found (events_of (ring_of memory.now) head.start head.len) (kept_pattern (cells_of memory.now)) head.upto cursor }
 {
-    match parts(&memory[RING..MEMORY_LONG], span_of(head)) {
+    match parts(&memory[RING..], span_of(head)) {
         Some((front, back)) => next_row(front, back, pattern_in(memory), head.upto, cursor),
         None => unreachable(),
     }
 }
 
 // The first so many of six numbers, in front of the lent row.
-fn write_row(out: &mut [u64], numbers: [u64; 6], many: usize)
-    requires { (6 ≤ length out.old) × (many ≤ 6) }
+fn write_row(out: &mut [u64; ROW_LONG], numbers: [u64; ROW_LONG], many: usize)
+    requires { many ≤ 6 }
     ensures { out.new ≡ take many numbers ++ drop many out.old }
 {
     out[..many].copy_from_slice(&numbers[..many]);
@@ -113,14 +93,13 @@ fn write_row(out: &mut [u64], numbers: [u64; 6], many: usize)
 
 // Tells the next row from a cursor on; where there is none, the telling is done with.
 pub fn tell(
-    memory: &mut [u64],
+    memory: &mut [u64; MEMORY_LONG],
     phase: Phase,
     head: Head,
     cursor: Cursor,
-    out: &mut [u64],
+    out: &mut [u64; ROW_LONG],
 ) -> Result<Told, Refusal>
-    requires memory_len { (length memory.old ≡ memory_long) × (6 ≤ length out.old) }
-    requires start_lt_capacity { (head.start < capacity) × ((head.len ≤ capacity) × (head.stale ≤ head.len)) }
+    requires { InRing head }
     ensures { Did (tell_from phase head (cells_of memory.old) (ring_of memory.old) cursor) result memory.new out.old out.new }
 {
     let Some(found) = next_in(memory, head, cursor) else {
@@ -134,8 +113,9 @@ pub fn tell(
 }
 
 // Holds an event that the pattern names, and leaves one that it doesn't; how many are held then.
-fn take_in(memory: &mut [u64], head: Head, e: Event, named: bool) -> usize
-    requires { (length memory.old ≡ memory_long) × ((head.start < capacity) × (head.len < capacity)) }
+fn take_in(memory: &mut [u64; MEMORY_LONG], head: Head, e: Event, named: bool) -> usize
+    requires in_ring { InRing head }
+    requires room { head.len < capacity }
     ensures after { memory.new ≡ take 419 memory.old ++ ring_with head e named (ring_of memory.old) }
     ensures value { result ≡ len_with head named }
 {
@@ -159,13 +139,13 @@ pub fn begin_at(known: usize) -> Cursor
 
 // An event counts: it is held if it has to be, and the rows are told whose last events are now not above what is heard to.
 pub fn count(
-    memory: &mut [u64],
+    memory: &mut [u64; MEMORY_LONG],
     head: Head,
     e: Event,
     named: bool,
-    out: &mut [u64],
+    out: &mut [u64; ROW_LONG],
 ) -> Result<Told, Refusal>
-    requires { (length memory.old ≡ memory_long) × ((6 ≤ length out.old) × (Ready head)) }
+    requires { Ready head }
     ensures { Did (turned head (cells_of memory.old) (ring_of memory.old) e (Counts head named)) result memory.new out.old out.new }
 {
     let len = take_in(memory, head, e, named);

@@ -12,10 +12,11 @@ returns c =
     let done = c.in-Some.ensures.cases in
     record {
       after =
-          ring_given m c.forget.new.ring c.requires.0
+          ring_given m c.forget.new.ring c.told-memory
           ∙ ap (λ (r : List ℕ). take 419 m ++ r)
           (done.after
-          ∙ ap (λ (r : List ℕ). with_forgotten r c.span_of.result.start k) (ring_lent m c.requires.0)
-          ∙ ap (λ (s : ℕ). with_forgotten (ring_of m) s k) span.0);
-      value = (done.start ∙ ap (λ (s : ℕ). (s + k) % capacity) span.0, done.len ∙ ap (λ (l : ℕ). l - k) span.1);
+          ∙ ap (λ (r : List ℕ). with_forgotten r c.span_of.result.start k) (ring_lent m c.told-memory)
+          ∙ ap (λ (s : ℕ). with_forgotten (ring_of m) s k) span.start);
+      start = done.start ∙ ap (λ (s : ℕ). (s + k) % capacity) span.start;
+      len = done.len ∙ ap (λ (l : ℕ). l - k) span.len;
     }

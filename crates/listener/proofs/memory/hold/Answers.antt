@@ -9,8 +9,8 @@ returns c =
     let m = c.args.memory.now in
     let span = c.span_of.ensures in
     let done = c.in-Some.ensures.cases in
-    ring_given m c.put.new.ring c.requires.0
+    ring_given m c.put.new.ring c.told-memory
     ∙ ap (λ (r : List ℕ). take 419 m ++ r)
     (done.after
-    ∙ ap (λ (r : List ℕ). with_put r c.span_of.result.start c.span_of.result.len c.args.e) (ring_lent m c.requires.0)
-    ∙ ap₂ (λ (s l : ℕ). with_put (ring_of m) s l c.args.e) span.0 span.1)
+    ∙ ap (λ (r : List ℕ). with_put r c.span_of.result.start c.span_of.result.len c.args.e) (ring_lent m c.told-memory)
+    ∙ ap₂ (λ (s l : ℕ). with_put (ring_of m) s l c.args.e) span.start span.len)

@@ -26,7 +26,7 @@ loop-e-preserved c =
     let inv = c.loop-e.invariant in
     let found = c.in-Some.ensures in
     let here : i < s.len = ltb-true i s.len (and_parts _ (ltb i s.len) (sym found.test)).1 in
-    let is = lent_at m s i c.in-Some.e c.requires.0 found.cases in
+    let is = lent_at m s i c.in-Some.e c.told-memory found.cases in
     let t : (nth (held_in (ring_of m) s) i).time < c.args.bound = subst (λ (x : Event). x.time < c.args.bound) is c.if-e-bound.false in
     (omega arith, omega arith, inv.2 ∙ run_goes_on c.args.bound i (held_in (ring_of m) s) (omega (arith, long m s)) t)
 
@@ -45,11 +45,12 @@ returns-then-e-bound c =
     let inv = c.loop-e.invariant in
     let found = c.in-Some.ensures in
     let here : i < s.len = ltb-true i s.len (and_parts _ (ltb i s.len) (sym found.test)).1 in
-    let is = lent_at m s i c.in-Some.e c.requires.0 found.cases in
+    let is = lent_at m s i c.in-Some.e c.told-memory found.cases in
     let t : c.args.bound ≤ (nth (held_in (ring_of m) s) i).time = subst (λ (x : Event). c.args.bound ≤ x.time) is c.if-e-bound.true in
     record {
-      value = ended m s c.args.head.start c.args.head.len c.args.from i c.args.bound c.span_of-span.ensures inv.2 (run_stops c.args.bound i (held_in (ring_of m) s) (omega (arith, long m s)) t);
-      bound = (inv.0, omega (arith, c.span_of-span.ensures.1));
+      value = ended m s c.args.head.start c.args.head.len c.args.from i c.args.bound (c.span_of-span.ensures.start, c.span_of-span.ensures.len) inv.2 (run_stops c.args.bound i (held_in (ring_of m) s) (omega (arith, long m s)) t);
+      from = inv.0;
+      len = omega (arith, c.span_of-span.ensures.len);
     }
 
 behind : (l r i n : ℕ) → l ≡ r → false ≡ (eqb l r && ltb i n) → n ≤ i
@@ -61,8 +62,9 @@ returns-in_default c =
     let s = c.span_of-span.result in
     let i = c.loop-e.i in
     let inv = c.loop-e.invariant in
-    let past : s.len ≤ i = behind (length (take ring_long (drop 419 m))) ring_long i s.len (lent_length m c.requires.0) c.in_default.ensures.test in
+    let past : s.len ≤ i = behind (length (take ring_long (drop 419 m))) ring_long i s.len (lent_length m c.told-memory) c.in_default.ensures.test in
     record {
-      value = ended m s c.args.head.start c.args.head.len c.args.from i c.args.bound c.span_of-span.ensures inv.2 (run_ends c.args.bound i (held_in (ring_of m) s) (omega (arith, long m s)));
-      bound = (inv.0, omega (arith, c.span_of-span.ensures.1));
+      value = ended m s c.args.head.start c.args.head.len c.args.from i c.args.bound (c.span_of-span.ensures.start, c.span_of-span.ensures.len) inv.2 (run_ends c.args.bound i (held_in (ring_of m) s) (omega (arith, long m s)));
+      from = inv.0;
+      len = omega (arith, c.span_of-span.ensures.len);
     }

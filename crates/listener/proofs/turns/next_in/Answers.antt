@@ -15,6 +15,6 @@ returns c =
     let s = c.span_of.result in
     let words = c.pattern_in.ensures in
     let list = c.in-Some.ensures.cases.list in
-    let here = ap (λ (r : List ℕ). held_in r s) (ring_lent m c.requires.0) ∙ ap₂ (λ (x y : ℕ). events (ring_of m) x y) c.span_of.ensures.0 c.span_of.ensures.1 in
+    let here = ap (λ (r : List ℕ). held_in r s) (ring_lent m c.told-memory) ∙ ap₂ (λ (x y : ℕ). events (ring_of m) x y) c.span_of.ensures.start c.span_of.ensures.len in
     c.next_row.ensures
     ∙ ap₂ (λ (es : List Event) (w : List ℕ). next_found es (kept_pattern w) h.upto c.args.cursor) (list ∙ here) words
