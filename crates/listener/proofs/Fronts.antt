@@ -1,5 +1,6 @@
 -- Fronts of a list in order: how many events at its beginning pass a test that none passes behind one that fails.
-use Rattle.std.proofs.Common.{◌≡◌, ℕ, zero, suc, ◌+◌, ◌<◌, ◌≤◌, Bool, true, false, not, ltb, List, [], ◌∷◌, length, drop, refl, ap, ◌∙◌, add-one, arith, le-ltb, lt-ltb}
+use Rattle.std.proofs.Common.{◌≡◌, ℕ, zero, suc, ◌+◌, ◌-◌, ◌<◌, ◌≤◌, Bool, true, false, not, ltb, List, [], ◌∷◌, length, drop, Some, None, Option, sym, refl, ap, ◌∙◌, add-one, arith, le-ltb, lt-ltb}
+use Rattle.std.specs.Option.{MatchOption, unwrap_or}
 use Rattle.std.proofs.lemmas.List.{drop_all}
 use Rattle.std.proofs.lemmas.Bool.Decides.{nat_tests}
 use Rattle.timeline.specs.declared.events.Event.{Event}
@@ -111,3 +112,36 @@ run_stops b i es l t =
 pub run_ends : (b i : ℕ) (es : List Event) → length es ≤ i → below_run b (drop i es) ≡ 0
 unfolding below_run
 run_ends b i es l = ap (below_run b) (drop_all i es l)
+
+-- what a look along a run finds: the first event that is not below, or the end
+pub run_found :
+    (b from n len : ℕ) (es : List Event) (r : Option ℕ) → length es ≡ n → n ≡ len → from ≤ len
+    → MatchOption r ((k : ℕ) → from ≤ k → k < len → k < n → (nth es k).time < b)
+    (λ i. (from ≤ i) × (i < len) × (i < n → b ≤ (nth es i).time) × ((k : ℕ) → from ≤ k → k < i → k < n → (nth es k).time < b))
+    → unwrap_or r len ≡ from + below_run b (drop from es)
+run_found b from n len es r long same behind found = go r found
+  where
+    along : (d i : ℕ) → i + d ≤ length es → ((k : ℕ) → i ≤ k → k < i + d → (nth es k).time < b) → below_run b (drop (i + d) es) ≡ 0 → i + d ≡ i + below_run b (drop i es)
+    along zero i short below stop =
+        let here : i ≡ i + 0 = omega arith in
+        omega (arith, ap (λ (x : ℕ). below_run b (drop x es)) here ∙ stop)
+    along (suc d) i short below stop =
+        let next : i + 1 + d ≡ i + suc d = omega arith in
+        let rest =
+        along d (i + 1) (omega (arith, next)) (λ k l u. below k (omega arith) (omega (arith, next))) (ap (λ (x : ℕ). below_run b (drop x es)) next ∙ stop) in
+        sym next ∙ rest ∙ sym (run_goes_on b i es (omega arith) (below i (omega arith) (omega arith)))
+
+    to : (i : ℕ) → from ≤ i → i ≤ length es → ((k : ℕ) → from ≤ k → k < i → (nth es k).time < b) → below_run b (drop i es) ≡ 0 → i ≡ from + below_run b (drop from es)
+    to i l short below stop =
+        let whole : from + (i - from) ≡ i = omega arith in
+        sym whole
+        ∙ along (i - from) from (omega (arith, whole)) (λ k u v. below k u (omega (arith, whole))) (ap (λ (x : ℕ). below_run b (drop x es)) whole ∙ stop)
+
+    go : (r : Option ℕ)
+        → MatchOption r ((k : ℕ) → from ≤ k → k < len → k < n → (nth es k).time < b)
+        (λ i. (from ≤ i) × (i < len) × (i < n → b ≤ (nth es i).time) × ((k : ℕ) → from ≤ k → k < i → k < n → (nth es k).time < b))
+        → unwrap_or r len ≡ from + below_run b (drop from es)
+    go None below = to len behind (omega (arith, long, same)) (λ k u v. below k u v (omega (arith, same))) (run_ends b len es (omega (arith, long, same)))
+    go (Some i) at =
+        to i at.0 (omega (arith, long, same, at.1)) (λ k u v. at.3 k u v (omega (arith, same, at.1)))
+        (run_stops b i es (omega (arith, long, same, at.1)) (at.2 (omega (arith, same, at.1))))

@@ -6,24 +6,16 @@ ghost use Rattle.listener.specs.Machine.{memory_long, begun, came, ended, gone_o
 ghost use Rattle.listener.specs.Entry.{Did, call_number, told_of, StepSays, step_fits};
 
 use crate::acts::{Call, Refusal, Told};
-use crate::head::{CELLS, Head, LIMIT, MEMORY_LONG, Phase, RING, ROW_LONG, Turn};
+use crate::head::{CELLS, Head, MEMORY_LONG, Phase, RING, ROW_LONG, Turn};
 use crate::memory::pattern_in;
 use crate::turns::{begin_at, count, hear, tell};
-use patterns::keep;
+use patterns::layout::{KINDS, NUMBERS};
+use patterns::{keep, number_at};
 use rows::Cursor;
 use timeline::Event;
 
 // A row that the listener is told has at most so many numbers.
 const ROW_MOST: usize = 1024;
-
-const KINDS: u64 = 65536;
-
-// What stands at a place, and 0 behind the end.
-fn number_at(row: &[u64], i: usize) -> u64
-    ensures { result ≡ slice_index row.now i }
-{
-    row.get(i).copied().unwrap_or(0)
-}
 
 // An event of a row of four numbers, with its number.
 fn event_in(row: &[u64], heard: u64) -> Event
@@ -42,7 +34,7 @@ fn event_in(row: &[u64], heard: u64) -> Event
 fn is_event(e: Event) -> bool
     ensures { result ≡ an_event e }
 {
-    e.time < LIMIT && e.kind < KINDS && e.who < LIMIT && e.value < LIMIT
+    e.time < NUMBERS && e.kind < KINDS && e.who < NUMBERS && e.value < NUMBERS
 }
 
 // It is given a pattern.

@@ -2,23 +2,22 @@
 ghost use Rattle.std.specs.Prelude.{◌≡◌, ◌∷◌, IfSome};
 ghost use Rattle.listener.specs.Machine.{phase_number, head_words, memory_of, head_of, cells_of, ring_of, a_head, Bounded, head_at};
 
-use timeline::CAPACITY;
+use patterns::PATTERN_WORDS;
+use patterns::layout::{MOST_STEPS, NUMBERS};
+use timeline::{CAPACITY, RING_LONG};
 
-// How many numbers the memory has; where the pattern and the ring begin in it.
-pub const MEMORY_LONG: usize = 82339;
-
+// Where the pattern and the ring begin in the memory, and how many numbers it has.
 pub const CELLS: usize = 14;
 
-pub const RING: usize = 419;
+pub const RING: usize = CELLS + PATTERN_WORDS;
 
-// A row that is told has at most so many numbers: as many as a pattern has steps.
-pub const ROW_LONG: usize = 6;
+pub const MEMORY_LONG: usize = RING + RING_LONG;
+
+// A row that is told has at most so many numbers.
+pub const ROW_LONG: usize = MOST_STEPS;
 
 // At most so many events are held between two events.
 pub const ROOM: usize = 8192;
-
-// Numbers of an event, but for its kind, are below this.
-pub const LIMIT: u64 = 4611686018427387904;
 
 // What the listener is doing between two acts.
 #[derive(Clone, Copy, PartialEq, Eq, Debug)]
@@ -84,8 +83,8 @@ impl Head {
     fn holds(self) -> bool
         ensures { result ≡ a_head self }
     {
-        self.count < LIMIT
-            && self.latest < LIMIT
+        self.count < NUMBERS
+            && self.latest < NUMBERS
             && self.start < CAPACITY
             && self.len <= ROOM + 1
             && self.known <= self.len

@@ -1,5 +1,7 @@
 // The parts of the memory behind its head: the pattern, and the ring of the events that are held.
-ghost use Rattle.std.specs.Prelude.{◌≡◌, ◌+◌, ◌-◌, ◌%◌, ◌<◌, ◌≤◌, true, ◌++◌, length, take, drop};
+ghost use Rattle.std.specs.Prelude.{◌≡◌, ◌+◌, ◌-◌, ◌%◌, ◌<◌, ◌≤◌, true, ◌++◌, length, take, drop, nat_lt};
+ghost use Rattle.timeline.specs.Order.{nth};
+ghost use Rattle.timeline.specs.Held.{held_in};
 ghost use Rattle.timeline.specs.Ring.{capacity, events as events_of, with_put, with_forgotten};
 ghost use Rattle.patterns.specs.Kept.{kept_pattern};
 ghost use Rattle.listener.specs.Machine.{memory_long, cells_of, ring_of, below_run, InRing};
@@ -30,6 +32,16 @@ pub fn span_of(head: Head) -> Span
     }
 }
 
+// Whether the event at a position, where one is held, has a time below a bound.
+fn is_below(memory: &[u64; MEMORY_LONG], span: Span, i: usize, bound: u64) -> bool
+    ensures { i < span.len → result ≡ nat_lt (nth (held_in (ring_of memory.now) span) i).time bound }
+{
+    match at(&memory[RING..], span, i) {
+        Some(e) => e.time < bound,
+        None => false,
+    }
+}
+
 // The first position from one on whose event has a time that is not below a bound.
 pub fn run_below(memory: &[u64; MEMORY_LONG], head: Head, from: usize, bound: u64) -> usize
     requires in_ring { InRing head }
@@ -39,14 +51,9 @@ pub fn run_below(memory: &[u64; MEMORY_LONG], head: Head, from: usize, bound: u6
     ensures len { result ≤ head.len }
 {
     let span = span_of(head);
-    let mut i = from;
-    while let Some(e) = at(&memory[RING..], span, i) {
-        if e.time >= bound {
-            break;
-        }
-        i += 1;
-    }
-    i
+    (from..head.len)
+        .find(|i| !is_below(memory, span, *i, bound))
+        .unwrap_or(head.len)
 }
 
 // Puts an event into the ring where it belongs.
