@@ -5,7 +5,7 @@ use Rattle.std.proofs.lemmas.Bool.Decides.{nat_tests as by_tests}
 use mir.Val.{bool_byte}
 use Rattle.timeline.specs.declared.events.Event.{Event}
 use Rattle.timeline.specs.Lists.{pick}
-use Rattle.timeline.specs.Ring.{capacity, events, with_forgotten}
+use Rattle.timeline.specs.Ring.{capacity, events, with_put, with_forgotten}
 use Rattle.patterns.specs.Patterns.{Pattern, named}
 use Rattle.patterns.specs.Kept.{at_most, kept_pattern, kept_count}
 use Rattle.rows.specs.declared.search.Cursor.{Cursor}
@@ -20,7 +20,7 @@ use Rattle.listener.specs.declared.acts.Told.{Told}
 use Rattle.listener.specs.declared.acts.Refusal.{Refusal}
 use Rattle.listener.specs.declared.acts.Told.TheVariants.{Row, Waits, Over as ToldOver}
 use Rattle.listener.specs.Engine.{Act, tells, waits, Stepped}
-use Rattle.listener.specs.Machine.{memory_long, no_places, memory_of, cells_of, ring_of, room, stale_with, counting, hear, settled_head, settled, phase_after, act_after, with_places, told_or_settled, tell_from, below_run, ring_with, len_with, turned}
+use Rattle.listener.specs.Machine.{memory_long, no_places, memory_of, cells_of, ring_of, room, stale_with, counting, hear, settled_head, settled, phase_after, act_after, with_places, told_or_settled, tell_from, below_run, newly_told, turned}
 use Rattle.listener.specs.Entry.{ActTold, Did}
 use Rattle.listener.proofs.Words.{cells_stay, ring_there}
 
@@ -130,24 +130,29 @@ module _ (ph : Phase) (h : Head) (cells ring : List ℕ) (c : Cursor) where
       (record { memory = m; told = row_told f.numbers out out₁ (kept_count cells) n k (six_most (get_or cells 2 0) (kept_count cells) refl) s w })
 
 -- AN EVENT THAT COUNTS
-abbrev with_len : Head → ℕ → ℕ → Head
-with_len h len upto =
-    record { count = h.count; latest = h.latest; start = h.start; len = len; known = h.known; upto = upto; stale = h.stale; at = h.at }
+abbrev with_len : Head → ℕ → Head
+with_len h len =
+    record { count = h.count; latest = h.latest; start = h.start; len = len; known = h.known; upto = h.upto; stale = h.stale; at = h.at }
 
-abbrev upto_from : Head → ℕ → ℕ → List ℕ → ℕ
-upto_from h mark len ring = h.known + below_run (mark + 1) (drop h.known (events ring h.start len))
+abbrev with_upto : Head → ℕ → Head
+with_upto h upto =
+    record { count = h.count; latest = h.latest; start = h.start; len = h.len; known = h.known; upto = upto; stale = h.stale; at = h.at }
 
-pub counted_is :
-    (m m₁ : List ℕ) (h : Head) (e : Event) (b : Bool) (len late mark upto : ℕ) (cur : Cursor) → length m ≡ memory_long
-    → m₁ ≡ take 419 m ++ ring_with h e b (ring_of m) → len ≡ len_with h b → late ≡ (kept_pattern (cells_of m₁)).late → mark ≡ h.latest - late
-    → upto ≡ upto_from h mark len (ring_of m₁) → cur ≡ begin_at h.known
-    → tell_from Telling (with_len h len upto) (cells_of m₁) (ring_of m₁) cur ≡ turned h (cells_of m) (ring_of m) e (Counts h b)
-counted_is m m₁ h e b len late mark upto cur long wrote is-len is-late is-mark is-upto is-cur =
-    let ring : List ℕ = ring_with h e b (ring_of m) in
-    let cells_are = ap cells_of wrote ∙ cells_stay m ring long in
-    let ring_is = ap ring_of wrote ∙ ring_there m ring long in
-    let mark-is : mark ≡ h.latest - (kept_pattern (cells_of m)).late = is-mark ∙ ap (λ (x : ℕ). h.latest - x) (is-late ∙ ap (λ (w : List ℕ). (kept_pattern w).late) cells_are) in
-    let upto-are = is-upto ∙ ap₂ (λ (x : ℕ) (r : List ℕ). upto_from h x len r) mark-is ring_is ∙ ap (λ (l : ℕ). upto_from h (h.latest - (kept_pattern (cells_of m)).late) l ring) is-len in
-    ap₂ (λ (w r : List ℕ). tell_from Telling (with_len h len upto) w r cur) cells_are ring_is
-    ∙ ap₂ (λ (l u : ℕ). tell_from Telling (with_len h l u) (cells_of m) ring cur) is-len upto-are
-    ∙ ap (tell_from Telling (with_len h (len_with h b) (upto_from h (h.latest - (kept_pattern (cells_of m)).late) (len_with h b) ring)) (cells_of m) ring) is-cur
+-- rows are told from the known events to the mark
+pub newly_is :
+    (h : Head) (cells ring : List ℕ) (late mark upto : ℕ) (cur : Cursor) → late ≡ (kept_pattern cells).late → mark ≡ h.latest - late
+    → upto ≡ h.known + below_run (mark + 1) (drop h.known (events ring h.start h.len)) → cur ≡ begin_at h.known
+    → tell_from Telling (with_upto h upto) cells ring cur ≡ newly_told h cells ring
+newly_is h cells ring late mark upto cur is-late is-mark is-upto is-cur =
+    let marked = is-mark ∙ ap (λ (x : ℕ). h.latest - x) is-late in
+    ap₂ (λ (u : ℕ) (c : Cursor). tell_from Telling (with_upto h u) cells ring c)
+    (is-upto ∙ ap (λ (x : ℕ). h.known + below_run (x + 1) (drop h.known (events ring h.start h.len))) marked)
+    is-cur
+
+-- so they are with the event that was put into the ring
+pub holding_is :
+    (m m₁ : List ℕ) (h : Head) (e : Event) → length m ≡ memory_long → m₁ ≡ take 419 m ++ with_put (ring_of m) h.start h.len e
+    → newly_told (with_len h (h.len + 1)) (cells_of m₁) (ring_of m₁) ≡ turned h (cells_of m) (ring_of m) e (Counts h true)
+holding_is m m₁ h e long wrote =
+    let ring : List ℕ = with_put (ring_of m) h.start h.len e in
+    ap₂ (newly_told (with_len h (h.len + 1))) (ap cells_of wrote ∙ cells_stay m ring long) (ap ring_of wrote ∙ ring_there m ring long)

@@ -1,5 +1,5 @@
 -- What the listener is told, case by case: each check hands on its value, or it is refused and nothing is changed.
-use Rattle.std.proofs.Common.{◌≡◌, ℕ, ◌+◌, ◌<◌, ◌≤◌, true, false, ltb, List, length, take, drop, Some, None, Ok, Err, Option, Result, sym, refl, ap, ◌∙◌, subst, ap₂, arith, rules}
+use Rattle.std.proofs.Common.{◌≡◌, ℕ, ◌+◌, ◌<◌, ◌≤◌, true, false, ltb, List, length, get_or, take, drop, Some, None, Ok, Err, Option, Result, sym, refl, ap, ◌∙◌, subst, ap₂, arith, rules}
 use Rattle.std.proofs.lemmas.List.{same_lists, places, length-take-le, length-drop}
 use Rattle.std.proofs.lemmas.Slice.{between-put_mid, drop-put_mid}
 use Rattle.std.proofs.lemmas.Bool.{and_parts, ltb-true}
@@ -138,21 +138,30 @@ pub cells_length : (m : List ℕ) → length m ≡ memory_long → length (take 
 cells_length m l = length-take-le 405 (drop 14 m) (omega (arith, length-drop 14 m))
 
 -- an event that was read from a row
-module _ (m out : List ℕ) (t k w v : ℕ) (h : Head) (e : Event) (is : e ≡ event_of h.count t k w v) (at : Some h ≡ head_at Waiting m) where
-  pub told_misfit : an_event e ≡ false → Did (came m t k w v) (Err OutOfTurn) m out out
-  told_misfit bad = came_misfit m out t k w v h at (ap an_event (sym is) ∙ bad)
+module _ (m out row : List ℕ) where
+  abbrev arrived : Stepped
+  arrived = came m (get_or row 0 0) (get_or row 1 0) (get_or row 2 0) (get_or row 3 0)
 
-  pub told_heard :
-      (x : Turn) (a : Result Told Refusal) (m₁ out₁ : List ℕ) → an_event e ≡ true → x ≡ hear (kept_pattern (cells_of m)) h (events (ring_of m) h.start h.len) e
-      → Did (turned h (cells_of m) (ring_of m) e x) a m₁ out out₁ → Did (came m t k w v) a m₁ out out₁
-  told_heard x a m₁ out₁ ok q d =
-      came_heard m out t k w v h x a m₁ out₁ at (ap an_event (sym is) ∙ ok) (q ∙ ap (hear (kept_pattern (cells_of m)) h (events (ring_of m) h.start h.len)) is)
-      (subst (λ (y : Event). Did (turned h (cells_of m) (ring_of m) y x) a m₁ out out₁) is d)
+  pub no_turn : None ≡ head_at Waiting m → Did arrived (Err OutOfTurn) m out out
+  no_turn e = came_out m out (get_or row 0 0) (get_or row 1 0) (get_or row 2 0) (get_or row 3 0) e
 
-  pub late_done : (m₁ : List ℕ) → m₁ ≡ memory_of Waiting (counted_head h) (cells_of m) (ring_of m) → Did (turned h (cells_of m) (ring_of m) e Late) (Ok TooLate) m₁ out out
+  module _ (h : Head) (e : Event) (is : e ≡ event_of h.count (get_or row 0 0) (get_or row 1 0) (get_or row 2 0) (get_or row 3 0)) (at : Some h ≡ head_at Waiting m) where
+    pub told_misfit : an_event e ≡ false → Did arrived (Err OutOfTurn) m out out
+    told_misfit bad = came_misfit m out (get_or row 0 0) (get_or row 1 0) (get_or row 2 0) (get_or row 3 0) h at (ap an_event (sym is) ∙ bad)
+
+    pub told_heard :
+        (x : Turn) (a : Result Told Refusal) (m₁ out₁ : List ℕ) → an_event e ≡ true → x ≡ hear (kept_pattern (cells_of m)) h (events (ring_of m) h.start h.len) e
+        → Did (turned h (cells_of m) (ring_of m) e x) a m₁ out out₁ → Did arrived a m₁ out out₁
+    told_heard x a m₁ out₁ ok q d =
+        came_heard m out (get_or row 0 0) (get_or row 1 0) (get_or row 2 0) (get_or row 3 0) h x a m₁ out₁ at (ap an_event (sym is) ∙ ok)
+        (q ∙ ap (hear (kept_pattern (cells_of m)) h (events (ring_of m) h.start h.len)) is)
+        (subst (λ (y : Event). Did (turned h (cells_of m) (ring_of m) y x) a m₁ out out₁) is d)
+
+module _ (m out m₁ : List ℕ) (h : Head) (e : Event) where
+  pub late_done : m₁ ≡ memory_of Waiting (counted_head h) (cells_of m) (ring_of m) → Did (turned h (cells_of m) (ring_of m) e Late) (Ok TooLate) m₁ out out
   unfolding ActTold
-  late_done m₁ q = record { memory = q; told = (refl, refl) }
+  late_done q = record { memory = q; told = (refl, refl) }
 
-  pub full_done : (m₁ : List ℕ) → m₁ ≡ memory_of Over h (cells_of m) (ring_of m) → Did (turned h (cells_of m) (ring_of m) e Full) (Err NoRoom) m₁ out out
+  pub full_done : m₁ ≡ memory_of Over h (cells_of m) (ring_of m) → Did (turned h (cells_of m) (ring_of m) e Full) (Err NoRoom) m₁ out out
   unfolding ActTold
-  full_done m₁ q = record { memory = q; told = (refl, refl) }
+  full_done q = record { memory = q; told = (refl, refl) }

@@ -239,6 +239,10 @@ telling_head p h b ring =
       at = h.at;
     }
 
+-- what it tells then
+abbrev pub newly_told : Head → List ℕ → List ℕ → Stepped
+newly_told h cells ring = tell_from Telling (telling_head (kept_pattern cells) h false ring) cells ring (begin_at h.known)
+
 abbrev pub counted_head : Head → Head
 counted_head h =
     record {

@@ -8,7 +8,7 @@ ghost use Rattle.listener.specs.Entry.{Did, call_number, told_of, StepSays, step
 use crate::acts::{Call, Refusal, Told};
 use crate::head::{CELLS, Head, MEMORY_LONG, Phase, RING, ROW_LONG, Turn};
 use crate::memory::pattern_in;
-use crate::turns::{begin_at, count, hear, tell};
+use crate::turns::{begin_at, hear, tell, tell_holding, tell_newly};
 use patterns::layout::{KINDS, NUMBERS};
 use patterns::{keep, number_at};
 use rows::Cursor;
@@ -80,7 +80,13 @@ fn come(
             head.store(memory, Phase::Over);
             Err(Refusal::NoRoom)
         }
-        Turn::Counts { head, named } => count(memory, head, e, named, out),
+        Turn::Counts { head, named } => {
+            if named {
+                tell_holding(memory, head, e, out)
+            } else {
+                tell_newly(memory, head, out)
+            }
+        }
     }
 }
 

@@ -1,12 +1,12 @@
 // What the listener does: it hears an event, tells rows, and settles.
-ghost use Rattle.std.specs.Prelude.{◌≡◌, ◌+◌, ◌-◌, ◌<◌, ◌≤◌, ◌++◌, length, take, drop};
+ghost use Rattle.std.specs.Prelude.{true, ◌≡◌, ◌+◌, ◌-◌, ◌<◌, ◌≤◌, ◌++◌, length, take, drop};
 ghost use Rattle.timeline.specs.Lists.{pick};
 ghost use Rattle.timeline.specs.Ring.{capacity, events as events_of};
 ghost use Rattle.patterns.specs.Kept.{kept_pattern};
 ghost use Rattle.rows.specs.Finding.{next_found};
 ghost use Rattle.rows.specs.SearchLaws.{begin_at};
 ghost use Rattle.listener.specs.declared.head.Turn.TheVariants.{Counts};
-ghost use Rattle.listener.specs.Machine.{memory_long, cells_of, ring_of, Bounded, InRing, Ready, ReadyTurn, latest_with, settled, tell_from, ring_with, len_with, turned, hear as hear_of};
+ghost use Rattle.listener.specs.Machine.{memory_long, cells_of, ring_of, Bounded, InRing, Ready, ReadyTurn, latest_with, settled, tell_from, newly_told, turned, hear as hear_of};
 ghost use Rattle.listener.specs.Entry.{Did};
 
 use crate::acts::{Refusal, Told};
@@ -112,21 +112,6 @@ pub fn tell(
     Ok(Told::Row(steps as u64))
 }
 
-// Holds an event that the pattern names, and leaves one that it doesn't; how many are held then.
-fn take_in(memory: &mut [u64; MEMORY_LONG], head: Head, e: Event, named: bool) -> usize
-    requires in_ring { InRing head }
-    requires room { head.len < capacity }
-    ensures after { memory.new ≡ take 419 memory.old ++ ring_with head e named (ring_of memory.old) }
-    ensures value { result ≡ len_with head named }
-{
-    if named {
-        hold(memory, head, e);
-        head.len + 1
-    } else {
-        head.len
-    }
-}
-
 // Where a search begins, with the last event at a position.
 pub fn begin_at(known: usize) -> Cursor
     ensures { result ≡ begin_at known }
@@ -137,21 +122,34 @@ pub fn begin_at(known: usize) -> Cursor
     }
 }
 
-// An event counts: it is held if it has to be, and the rows are told whose last events are now not above what is heard to.
-pub fn count(
+// Rows are told whose last events are behind the known ones and not above what is heard to.
+pub fn tell_newly(
     memory: &mut [u64; MEMORY_LONG],
     head: Head,
-    e: Event,
-    named: bool,
     out: &mut [u64; ROW_LONG],
 ) -> Result<Told, Refusal>
-    requires { Ready head }
-    ensures { Did (turned head (cells_of memory.old) (ring_of memory.old) e (Counts head named)) result memory.new out.old out.new }
+    requires in_ring { InRing head }
+    requires known { head.known ≤ head.len }
+    requires latest { head.latest < 4611686018427387904 }
+    ensures { Did (newly_told head (cells_of memory.old) (ring_of memory.old)) result memory.new out.old out.new }
 {
-    let len = take_in(memory, head, e, named);
-    let head = Head { len, ..head };
     let mark = head.latest.saturating_sub(pattern_in(memory).late());
     let upto = run_below(memory, head, head.known, mark + 1);
     let head = Head { upto, ..head };
     tell(memory, Phase::Telling, head, begin_at(head.known), out)
+}
+
+// The same, with an event that has to be held put in where it belongs.
+pub fn tell_holding(
+    memory: &mut [u64; MEMORY_LONG],
+    head: Head,
+    e: Event,
+    out: &mut [u64; ROW_LONG],
+) -> Result<Told, Refusal>
+    requires { Ready head }
+    ensures { Did (turned head (cells_of memory.old) (ring_of memory.old) e (Counts head true)) result memory.new out.old out.new }
+{
+    hold(memory, head, e);
+    let len = head.len + 1;
+    tell_newly(memory, Head { len, ..head }, out)
 }

@@ -1,43 +1,39 @@
-use Rattle.std.proofs.Common.{get_or, sym}
+use Rattle.std.proofs.Common.{Bool, sym, subst}
 use Rattle.listener.specs.declared.head.Turn.TheVariants.{Late, Full, Counts}
-use Rattle.listener.proofs.Saying.{came_out, told_misfit, told_heard, late_done, full_done}
+use Rattle.listener.specs.Machine.{cells_of, ring_of, turned}
+use Rattle.listener.specs.Entry.{Did}
+use Rattle.listener.proofs.Saying.{no_turn, told_misfit, told_heard, late_done, full_done}
 use Rattle.listener.proofs.entry.come.Goals as goal
 
 pub returns-in_default : goal.returns-in_default
-returns-in_default c =
-    let r = c.args.row.now in
-    came_out c.args.memory.now c.args.out.now (get_or r 0 0) (get_or r 1 0) (get_or r 2 0) (get_or r 3 0) c.in_default.ensures.value
+returns-in_default c = no_turn c.args.memory.now c.args.out.now c.args.row.now c.in_default.ensures.value
 
 pub returns-then-not-is_event : goal.returns-then-not-is_event
 returns-then-not-is_event c =
-    let r = c.args.row.now in
-    told_misfit c.args.memory.now c.args.out.now (get_or r 0 0) (get_or r 1 0) (get_or r 2 0) (get_or r 3 0) c.in-Some.head c.event_in-e.result
-    c.event_in-e.ensures c.in-Some.ensures.value (sym c.if-not-is_event.ensures)
+    told_misfit c.args.memory.now c.args.out.now c.args.row.now c.in-Some.head c.event_in-e.result c.event_in-e.ensures c.in-Some.ensures.value (sym c.if-not-is_event.ensures)
 
 pub returns-in-Late : goal.returns-in-Late
 returns-in-Late c =
-    let m = c.args.memory.now in
-    let out = c.args.out.now in
-    let r = c.args.row.now in
-    let h = c.in-Some.head in
-    let e = c.event_in-e.result in
-    told_heard m out (get_or r 0 0) (get_or r 1 0) (get_or r 2 0) (get_or r 3 0) h e c.event_in-e.ensures c.in-Some.ensures.value Late _ _ _ (sym c.if-not-is_event.ensures)
-    c.in-Late.ensures.value
-    (late_done m out (get_or r 0 0) (get_or r 1 0) (get_or r 2 0) (get_or r 3 0) h e c.event_in-e.ensures c.in-Some.ensures.value _ c.store.ensures)
+    told_heard c.args.memory.now c.args.out.now c.args.row.now c.in-Some.head c.event_in-e.result c.event_in-e.ensures c.in-Some.ensures.value
+    Late _ _ _ (sym c.if-not-is_event.ensures) c.in-Late.ensures.value (late_done c.args.memory.now c.args.out.now _ c.in-Some.head c.event_in-e.result c.store.ensures)
 
 pub returns-in-Full : goal.returns-in-Full
 returns-in-Full c =
-    let m = c.args.memory.now in
-    let out = c.args.out.now in
-    let r = c.args.row.now in
-    let h = c.in-Some.head in
-    let e = c.event_in-e.result in
-    told_heard m out (get_or r 0 0) (get_or r 1 0) (get_or r 2 0) (get_or r 3 0) h e c.event_in-e.ensures c.in-Some.ensures.value Full _ _ _ (sym c.if-not-is_event.ensures)
-    c.in-Full.ensures.value
-    (full_done m out (get_or r 0 0) (get_or r 1 0) (get_or r 2 0) (get_or r 3 0) h e c.event_in-e.ensures c.in-Some.ensures.value _ c.store-in-Full.ensures)
+    told_heard c.args.memory.now c.args.out.now c.args.row.now c.in-Some.head c.event_in-e.result c.event_in-e.ensures c.in-Some.ensures.value
+    Full _ _ _ (sym c.if-not-is_event.ensures) c.in-Full.ensures.value (full_done c.args.memory.now c.args.out.now _ c.in-Some.head c.event_in-e.result c.store-in-Full.ensures)
 
-pub returns-in-Counts : goal.returns-in-Counts
-returns-in-Counts c =
-    let r = c.args.row.now in
-    told_heard c.args.memory.now c.args.out.now (get_or r 0 0) (get_or r 1 0) (get_or r 2 0) (get_or r 3 0) c.in-Some.head c.event_in-e.result c.event_in-e.ensures c.in-Some.ensures.value
-    (Counts c.in-Counts.head c.in-Counts.named) _ _ _ (sym c.if-not-is_event.ensures) c.in-Counts.ensures.value c.count.ensures
+pub returns-then-named : goal.returns-then-named
+returns-then-named c =
+    let m = c.args.memory.now in
+    told_heard c.args.memory.now c.args.out.now c.args.row.now c.in-Some.head c.event_in-e.result c.event_in-e.ensures c.in-Some.ensures.value
+    (Counts c.in-Counts.head c.in-Counts.named) _ _ _ (sym c.if-not-is_event.ensures) c.in-Counts.ensures.value
+    (subst (λ (b : Bool). Did (turned c.in-Some.head (cells_of m) (ring_of m) c.event_in-e.result (Counts c.in-Counts.head b)) c.tell_holding.result c.tell_holding.new.memory c.args.out.now c.tell_holding.new.out)
+    (sym c.if-named.true) c.tell_holding.ensures)
+
+pub returns-else-named : goal.returns-else-named
+returns-else-named c =
+    let m = c.args.memory.now in
+    told_heard c.args.memory.now c.args.out.now c.args.row.now c.in-Some.head c.event_in-e.result c.event_in-e.ensures c.in-Some.ensures.value
+    (Counts c.in-Counts.head c.in-Counts.named) _ _ _ (sym c.if-not-is_event.ensures) c.in-Counts.ensures.value
+    (subst (λ (b : Bool). Did (turned c.in-Some.head (cells_of m) (ring_of m) c.event_in-e.result (Counts c.in-Counts.head b)) c.tell_newly.result c.tell_newly.new.memory c.args.out.now c.tell_newly.new.out)
+    (sym c.if-named.false) c.tell_newly.ensures)
