@@ -1,6 +1,6 @@
 -- Fronts of a list in order: how many events at its beginning pass a test that none passes behind one that fails.
 use Rattle.std.proofs.Common.{◌≡◌, ℕ, zero, suc, ◌+◌, ◌-◌, ◌<◌, ◌≤◌, Bool, true, false, not, ltb, List, [], ◌∷◌, length, drop, Some, None, Option, sym, refl, ap, ◌∙◌, add-one, arith, le-ltb, lt-ltb}
-use Rattle.std.specs.Option.{MatchOption, unwrap_or}
+use Rattle.std.specs.Option.{MatchOption, IfSome, is_some, unwrap_or}
 use Rattle.std.proofs.lemmas.List.{drop_all}
 use Rattle.std.proofs.lemmas.Bool.Decides.{nat_tests}
 use Rattle.timeline.specs.declared.events.Event.{Event}
@@ -145,3 +145,10 @@ run_found b from n len es r long same behind found = go r found
     go (Some i) at =
         to i at.0 (omega (arith, long, same, at.1)) (λ k u v. at.3 k u v (omega (arith, same, at.1)))
         (run_stops b i es (omega (arith, long, same, at.1)) (at.2 (omega (arith, same, at.1))))
+
+-- a test of what stands at a held place
+pub below_held :
+    (b : ℕ) (e : Event) (o : Option Event) (r : Bool) (What : Event → Type 0) → is_some o ≡ true → IfSome o (λ x. x ≡ e) → MatchOption o (r ≡ false) What
+    → ((x : Event) → What x → r ≡ ltb x.time b) → r ≡ ltb e.time b
+below_held b e None r What some is what tells = grind arith
+below_held b e (Some x) r What some is what tells = tells x what ∙ ap (λ (y : Event). ltb y.time b) is

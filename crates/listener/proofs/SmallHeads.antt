@@ -1,5 +1,7 @@
 -- The states that the listener writes are small, if the one before was and a few words of it are bounded.
-use Rattle.std.proofs.Common.{◌≡◌, ℕ, suc, ◌+◌, ◌-◌, ◌≤◌, Bool, true, false, List, length, drop, ap, ◌∙◌, arith}
+use Rattle.std.proofs.Common.{◌≡◌, ℕ, suc, ◌+◌, ◌-◌, ◌≤◌, Bool, true, false, ◌&&◌, eqb, List, length, get_or, drop, Some, None, refl, ap, ◌∙◌, arith}
+use Rattle.std.specs.Option.{IfSome}
+use Rattle.std.specs.Bool.{then_some}
 use Rattle.std.proofs.lemmas.List.FromFn.{length-map-range_with_len}
 use Rattle.std.proofs.lemmas.List.{length-drop}
 use Rattle.std.proofs.lemmas.Bool.Decides.{nat_tests as by_tests}
@@ -8,7 +10,9 @@ use Rattle.timeline.specs.Ring.{slot, events}
 use Rattle.patterns.specs.Patterns.{Pattern}
 use Rattle.rows.specs.SearchLaws.{begin_at}
 use Rattle.listener.specs.declared.head.Head.{Head}
-use Rattle.listener.specs.Machine.{Bounded, room, a_head, settled_head, with_places, blank, latest_with, counting, len_with, telling_head, counted_head, ending_head}
+use Rattle.timeline.specs.Lists.{pick}
+use Rattle.listener.specs.declared.head.Phase.{Phase}
+use Rattle.listener.specs.Machine.{phase_number, head_of, head_at, Bounded, room, a_head, settled_head, with_places, blank, latest_with, counting, len_with, telling_head, counted_head, ending_head}
 use Rattle.listener.proofs.Fronts.{below_run_most}
 use Rattle.listener.proofs.Small.{Small, Smalls, no_places_small, SmallHead}
 
@@ -57,6 +61,19 @@ bounds h e =
       upto = grind (arith, by_tests);
       stale = grind (arith, by_tests);
     }
+
+-- a state that is handed on where it is one
+pub handed_on :
+    (ph : Phase) (m : List ℕ) (b : Bool) (h : Head) → b ≡ (eqb (get_or m 0 0) (phase_number ph) && a_head (head_of m)) → h ≡ head_of m
+    → (then_some b h ≡ head_at ph m) × IfSome (then_some b h) Bounded
+unfolding head_at
+handed_on ph m b h is same = rw (same, is) (go (eqb (get_or m 0 0) (phase_number ph)) (a_head (head_of m)) refl)
+  where
+    go : (x y : Bool) → a_head (head_of m) ≡ y
+        → (then_some (x && y) (head_of m) ≡ pick (x && y) (Some (head_of m)) None) × IfSome (then_some (x && y) (head_of m)) Bounded
+    go true true e = (refl, bounds (head_of m) e)
+    go true false e = (refl, tt)
+    go false y e = (refl, tt)
 
 pub counted_small : (h : Head) → Bounded h → SmallHead h → SmallHead (counted_head h)
 counted_small h k s =

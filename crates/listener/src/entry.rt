@@ -2,11 +2,11 @@
 ghost use Rattle.std.specs.Prelude.{◌≡◌, ◌≤◌, length, slice_index};
 ghost use Rattle.patterns.specs.Limits.{an_event};
 ghost use Rattle.patterns.specs.Numbers.{pattern_in};
-ghost use Rattle.listener.specs.Machine.{memory_long, begun, came, ended, gone_on, machine, event_of, cells_of, cursor_of};
+ghost use Rattle.listener.specs.Machine.{memory_long, begun, came, ended, gone_on, resumed, InRing, machine, event_of, cells_of, cursor_of};
 ghost use Rattle.listener.specs.Entry.{Did, call_number, told_of, StepSays, step_fits};
 
 use crate::acts::{Call, Refusal, Told};
-use crate::head::{CELLS, Head, MEMORY_LONG, Phase, RING, ROW_LONG, Turn};
+use crate::head::{CELLS, Head, Memory, Phase, RING, Row, Turn};
 use crate::memory::pattern_in;
 use crate::turns::{begin_at, hear, tell, tell_holding, tell_newly};
 use patterns::layout::{KINDS, NUMBERS};
@@ -38,11 +38,7 @@ fn is_event(e: Event) -> bool
 }
 
 // It is given a pattern.
-fn begin(
-    memory: &mut [u64; MEMORY_LONG],
-    row: &[u64],
-    out: &mut [u64; ROW_LONG],
-) -> Result<Told, Refusal>
+fn begin(memory: &mut Memory, row: &[u64], out: &mut Row) -> Result<Told, Refusal>
     ensures { Did (begun memory.old (pattern_in row.now)) result memory.new out.old out.new }
 {
     let Some(_) = Head::in_phase(memory, Phase::New) else {
@@ -56,11 +52,7 @@ fn begin(
 }
 
 // It is told of an event.
-fn come(
-    memory: &mut [u64; MEMORY_LONG],
-    row: &[u64],
-    out: &mut [u64; ROW_LONG],
-) -> Result<Told, Refusal>
+fn come(memory: &mut Memory, row: &[u64], out: &mut Row) -> Result<Told, Refusal>
     ensures { Did (came memory.old (slice_index row.now 0) (slice_index row.now 1) (slice_index row.now 2) (slice_index row.now 3)) result memory.new out.old out.new }
 {
     let Some(head) = Head::in_phase(memory, Phase::Waiting) else {
@@ -91,7 +83,7 @@ fn come(
 }
 
 // Nothing more comes.
-fn finish(memory: &mut [u64; MEMORY_LONG], out: &mut [u64; ROW_LONG]) -> Result<Told, Refusal>
+fn finish(memory: &mut Memory, out: &mut Row) -> Result<Told, Refusal>
     ensures { Did (ended memory.old) result memory.new out.old out.new }
 {
     let Some(head) = Head::in_phase(memory, Phase::Waiting) else {
@@ -106,7 +98,7 @@ fn finish(memory: &mut [u64; MEMORY_LONG], out: &mut [u64; ROW_LONG]) -> Result<
 }
 
 // The cursor behind the row that was told last.
-fn cursor_of(memory: &[u64; MEMORY_LONG], head: Head) -> Cursor
+fn cursor_of(memory: &Memory, head: Head) -> Cursor
     ensures { result ≡ cursor_of (cells_of memory.now) head }
 {
     let depth = pattern_in(memory).steps().saturating_sub(1);
@@ -114,27 +106,29 @@ fn cursor_of(memory: &[u64; MEMORY_LONG], head: Head) -> Cursor
     Cursor { depth, at }
 }
 
+// The telling of a phase goes on.
+fn resume(memory: &mut Memory, phase: Phase, head: Head, out: &mut Row) -> Result<Told, Refusal>
+    requires { InRing head }
+    ensures { Did (resumed phase memory.old head) result memory.new out.old out.new }
+{
+    let cursor = cursor_of(memory, head);
+    tell(memory, phase, head, cursor, out)
+}
+
 // It is to go on telling.
-fn go_on(memory: &mut [u64; MEMORY_LONG], out: &mut [u64; ROW_LONG]) -> Result<Told, Refusal>
+fn go_on(memory: &mut Memory, out: &mut Row) -> Result<Told, Refusal>
     ensures { Did (gone_on memory.old) result memory.new out.old out.new }
 {
     if let Some(head) = Head::in_phase(memory, Phase::Telling) {
-        let cursor = cursor_of(memory, head);
-        return tell(memory, Phase::Telling, head, cursor, out);
+        return resume(memory, Phase::Telling, head, out);
     }
     let Some(head) = Head::in_phase(memory, Phase::Ending) else {
         return Err(Refusal::OutOfTurn);
     };
-    let cursor = cursor_of(memory, head);
-    tell(memory, Phase::Ending, head, cursor, out)
+    resume(memory, Phase::Ending, head, out)
 }
 
-fn act(
-    memory: &mut [u64; MEMORY_LONG],
-    call: Call,
-    row: &[u64],
-    out: &mut [u64; ROW_LONG],
-) -> Result<Told, Refusal>
+fn act(memory: &mut Memory, call: Call, row: &[u64], out: &mut Row) -> Result<Told, Refusal>
     ensures { Did (machine memory.old (told_of (call_number call) row.now)) result memory.new out.old out.new }
 {
     match call {

@@ -13,8 +13,11 @@ pub const RING: usize = CELLS + PATTERN_WORDS;
 
 pub const MEMORY_LONG: usize = RING + RING_LONG;
 
-// A row that is told has at most so many numbers.
-pub const ROW_LONG: usize = MOST_STEPS;
+// The memory, and the front of the lent row, where a row that is told stands. They are passed side by side: each method of a struct that
+// held both as `&mut` would have to ensure that it still holds the same two.
+pub type Memory = [u64; MEMORY_LONG];
+
+pub type Row = [u64; MOST_STEPS];
 
 // At most so many events are held between two events.
 pub const ROOM: usize = 8192;
@@ -63,7 +66,7 @@ pub struct Head {
     pub upto: usize,
     pub stale: usize,
     // While rows are told: the positions of the search.
-    pub at: [usize; 6],
+    pub at: [usize; MOST_STEPS],
 }
 
 impl Head {
@@ -76,7 +79,7 @@ impl Head {
         known: 0,
         upto: 0,
         stale: 0,
-        at: [0; 6],
+        at: [0; MOST_STEPS],
     };
 
     // Whether the listener can have written it: then no index leaves the memory.
@@ -92,7 +95,7 @@ impl Head {
             && self.stale <= self.len
     }
 
-    fn load(memory: &[u64; MEMORY_LONG]) -> Head
+    fn load(memory: &Memory) -> Head
         ensures { result ≡ head_of memory.now }
     {
         let [
@@ -127,16 +130,12 @@ impl Head {
     }
 
     // The state, where it is one and the phase is this.
-    pub fn in_phase(memory: &[u64; MEMORY_LONG], phase: Phase) -> Option<Head>
+    pub fn in_phase(memory: &Memory, phase: Phase) -> Option<Head>
         ensures value { result ≡ head_at phase memory.now }
         ensures bound { IfSome result Bounded }
     {
         let head = Head::load(memory);
-        if memory[0] == u64::from(phase) && head.holds() {
-            Some(head)
-        } else {
-            None
-        }
+        (memory[0] == u64::from(phase) && head.holds()).then_some(head)
     }
 
     // The words in which it stands, behind that of the phase.
@@ -162,7 +161,7 @@ impl Head {
         ]
     }
 
-    pub fn store(self, memory: &mut [u64; MEMORY_LONG], phase: Phase)
+    pub fn store(self, memory: &mut Memory, phase: Phase)
         ensures { memory.new ≡ memory_of phase self (cells_of memory.old) (ring_of memory.old) }
     {
         memory[..CELLS].copy_from_slice(&self.words(phase));

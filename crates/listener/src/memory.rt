@@ -6,18 +6,15 @@ ghost use Rattle.timeline.specs.Ring.{capacity, events as events_of, with_put, w
 ghost use Rattle.patterns.specs.Kept.{kept_pattern};
 ghost use Rattle.listener.specs.Machine.{memory_long, cells_of, ring_of, below_run, InRing};
 
-use crate::head::{CELLS, Head, MEMORY_LONG, RING};
+use crate::head::{CELLS, Head, Memory, RING};
 use patterns::Kept;
 use timeline::{Event, Span, at, forget, put};
 
 // The pattern.
-pub fn pattern_in(memory: &[u64; MEMORY_LONG]) -> Kept<'_>
+pub fn pattern_in(memory: &Memory) -> Kept<'_>
     ensures { result.words.now ≡ cells_of memory.now }
 {
-    match Kept::over(&memory[CELLS..RING]) {
-        Some(kept) => kept,
-        None => unreachable(),
-    }
+    Kept::over(&memory[CELLS..RING]).unwrap()
 }
 
 // Which slots of the ring are held.
@@ -26,24 +23,18 @@ pub fn span_of(head: Head) -> Span
     ensures start { result.start ≡ head.start }
     ensures len { result.len ≡ head.len }
 {
-    match Span::new(head.start, head.len) {
-        Some(span) => span,
-        None => unreachable(),
-    }
+    Span::new(head.start, head.len).unwrap()
 }
 
 // Whether the event at a position, where one is held, has a time below a bound.
-fn is_below(memory: &[u64; MEMORY_LONG], span: Span, i: usize, bound: u64) -> bool
+fn is_below(memory: &Memory, span: Span, i: usize, bound: u64) -> bool
     ensures { i < span.len → result ≡ nat_lt (nth (held_in (ring_of memory.now) span) i).time bound }
 {
-    match at(&memory[RING..], span, i) {
-        Some(e) => e.time < bound,
-        None => false,
-    }
+    at(&memory[RING..], span, i).is_some_and(|e| e.time < bound)
 }
 
 // The first position from one on whose event has a time that is not below a bound.
-pub fn run_below(memory: &[u64; MEMORY_LONG], head: Head, from: usize, bound: u64) -> usize
+pub fn run_below(memory: &Memory, head: Head, from: usize, bound: u64) -> usize
     requires in_ring { InRing head }
     requires from { from ≤ head.len }
     ensures value { result ≡ from + below_run bound (drop from (events_of (ring_of memory.now) head.start head.len)) }
@@ -57,26 +48,20 @@ pub fn run_below(memory: &[u64; MEMORY_LONG], head: Head, from: usize, bound: u6
 }
 
 // Puts an event into the ring where it belongs.
-pub fn hold(memory: &mut [u64; MEMORY_LONG], head: Head, e: Event)
+pub fn hold(memory: &mut Memory, head: Head, e: Event)
     requires in_ring { InRing head }
     requires room { head.len < capacity }
     ensures { memory.new ≡ take 419 memory.old ++ with_put (ring_of memory.old) head.start head.len e }
 {
-    match put(&mut memory[RING..], span_of(head), e) {
-        Some(_) => (),
-        None => unreachable(),
-    }
+    put(&mut memory[RING..], span_of(head), e).unwrap();
 }
 
 // Forgets the stale events; which slots are held then.
-pub fn forget_stale(memory: &mut [u64; MEMORY_LONG], head: Head) -> Span
+pub fn forget_stale(memory: &mut Memory, head: Head) -> Span
     requires { InRing head }
     ensures after { memory.new ≡ take 419 memory.old ++ with_forgotten (ring_of memory.old) head.start head.stale }
     ensures start { result.start ≡ (head.start + head.stale) % capacity }
     ensures len { result.len ≡ head.len - head.stale }
 {
-    match forget(&mut memory[RING..], span_of(head), head.stale) {
-        Some(span) => span,
-        None => unreachable(),
-    }
+    forget(&mut memory[RING..], span_of(head), head.stale).unwrap()
 }

@@ -10,13 +10,14 @@ ghost use Rattle.listener.specs.Machine.{memory_long, cells_of, ring_of, Bounded
 ghost use Rattle.listener.specs.Entry.{Did};
 
 use crate::acts::{Refusal, Told};
-use crate::head::{Head, MEMORY_LONG, Phase, RING, ROOM, ROW_LONG, Turn};
+use crate::head::{Head, Memory, Phase, RING, ROOM, Row, Turn};
 use crate::memory::{forget_stale, hold, pattern_in, run_below, span_of};
+use patterns::layout::MOST_STEPS;
 use rows::{Cursor, Found, next_row};
 use timeline::{Event, parts};
 
 // What an event brings about: it is too late, there is no room, or it counts. It looks at the stale events alone, and changes nothing.
-pub fn hear(memory: &[u64; MEMORY_LONG], head: Head, e: Event) -> Turn
+pub fn hear(memory: &Memory, head: Head, e: Event) -> Turn
     requires bounded { Bounded head }
     requires time { e.time < 4611686018427387904 }
     ensures bound { ReadyTurn result }
@@ -45,12 +46,7 @@ pub fn hear(memory: &[u64; MEMORY_LONG], head: Head, e: Event) -> Turn
 }
 
 // All rows are told: what is stale is forgotten, and the listener waits, or is over.
-fn settle(
-    memory: &mut [u64; MEMORY_LONG],
-    phase: Phase,
-    head: Head,
-    out: &mut [u64; ROW_LONG],
-) -> Result<Told, Refusal>
+fn settle(memory: &mut Memory, phase: Phase, head: Head, out: &mut Row) -> Result<Told, Refusal>
     requires { InRing head }
     ensures { Did (settled phase head (cells_of memory.old) (ring_of memory.old)) result memory.new out.old out.new }
 {
@@ -61,7 +57,7 @@ fn settle(
         known: head.upto.saturating_sub(head.stale),
         upto: 0,
         stale: 0,
-        at: [0; 6],
+        at: [0; MOST_STEPS],
         ..head
     };
     let (next, told) = match phase {
@@ -73,18 +69,16 @@ fn settle(
 }
 
 // The next row from a cursor on.
-fn next_in(memory: &[u64; MEMORY_LONG], head: Head, cursor: Cursor) -> Option<Found>
+fn next_in(memory: &Memory, head: Head, cursor: Cursor) -> Option<Found>
     requires { InRing head }
     ensures { result ≡ next_found (events_of (ring_of memory.now) head.start head.len) (kept_pattern (cells_of memory.now)) head.upto cursor }
 {
-    match parts(&memory[RING..], span_of(head)) {
-        Some((front, back)) => next_row(front, back, pattern_in(memory), head.upto, cursor),
-        None => unreachable(),
-    }
+    let (front, back) = parts(&memory[RING..], span_of(head)).unwrap();
+    next_row(front, back, pattern_in(memory), head.upto, cursor)
 }
 
 // The first so many of six numbers, in front of the lent row.
-fn write_row(out: &mut [u64; ROW_LONG], numbers: [u64; ROW_LONG], many: usize)
+fn write_row(out: &mut Row, numbers: Row, many: usize)
     requires { many ≤ 6 }
     ensures { out.new ≡ take many numbers ++ drop many out.old }
 {
@@ -93,11 +87,11 @@ fn write_row(out: &mut [u64; ROW_LONG], numbers: [u64; ROW_LONG], many: usize)
 
 // Tells the next row from a cursor on; where there is none, the telling is done with.
 pub fn tell(
-    memory: &mut [u64; MEMORY_LONG],
+    memory: &mut Memory,
     phase: Phase,
     head: Head,
     cursor: Cursor,
-    out: &mut [u64; ROW_LONG],
+    out: &mut Row,
 ) -> Result<Told, Refusal>
     requires { InRing head }
     ensures { Did (tell_from phase head (cells_of memory.old) (ring_of memory.old) cursor) result memory.new out.old out.new }
@@ -123,11 +117,7 @@ pub fn begin_at(known: usize) -> Cursor
 }
 
 // Rows are told whose last events are behind the known ones and not above what is heard to.
-pub fn tell_newly(
-    memory: &mut [u64; MEMORY_LONG],
-    head: Head,
-    out: &mut [u64; ROW_LONG],
-) -> Result<Told, Refusal>
+pub fn tell_newly(memory: &mut Memory, head: Head, out: &mut Row) -> Result<Told, Refusal>
     requires in_ring { InRing head }
     requires known { head.known ≤ head.len }
     requires latest { head.latest < 4611686018427387904 }
@@ -141,10 +131,10 @@ pub fn tell_newly(
 
 // The same, with an event that has to be held put in where it belongs.
 pub fn tell_holding(
-    memory: &mut [u64; MEMORY_LONG],
+    memory: &mut Memory,
     head: Head,
     e: Event,
-    out: &mut [u64; ROW_LONG],
+    out: &mut Row,
 ) -> Result<Told, Refusal>
     requires { Ready head }
     ensures { Did (turned head (cells_of memory.old) (ring_of memory.old) e (Counts head true)) result memory.new out.old out.new }

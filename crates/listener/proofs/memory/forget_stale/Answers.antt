@@ -1,4 +1,5 @@
 use Rattle.std.proofs.Common.{ℕ, ◌+◌, ◌-◌, ◌%◌, List, ◌++◌, take, ap, ◌∙◌}
+use Rattle.std.proofs.lemmas.Option.{MatchOption-at_some}
 use Rattle.timeline.specs.Ring.{capacity, with_forgotten}
 use Rattle.listener.specs.Machine.{ring_of}
 use Rattle.listener.proofs.Words.{ring_lent, ring_given}
@@ -9,7 +10,7 @@ returns c =
     let m = c.args.memory.now in
     let k = c.args.head.stale in
     let span = c.span_of.ensures in
-    let done = c.in-Some.ensures.cases in
+    let done = MatchOption-at_some _ _ c.unwrap.result c.unwrap.ensures c.forget.ensures.cases in
     record {
       after =
           ring_given m c.forget.new.ring c.told-memory

@@ -1,4 +1,5 @@
 use Rattle.std.proofs.Common.{ℕ, List, ◌++◌, take, ap, ◌∙◌, ap₂}
+use Rattle.std.proofs.lemmas.Option.{MatchOption-at_some}
 use Rattle.timeline.specs.Ring.{with_put}
 use Rattle.listener.specs.Machine.{ring_of}
 use Rattle.listener.proofs.Words.{ring_lent, ring_given}
@@ -8,7 +9,7 @@ pub returns : goal.returns
 returns c =
     let m = c.args.memory.now in
     let span = c.span_of.ensures in
-    let done = c.in-Some.ensures.cases in
+    let done = MatchOption-at_some _ _ c.unwrap.result c.unwrap.ensures c.put.ensures.cases in
     ring_given m c.put.new.ring c.told-memory
     ∙ ap (λ (r : List ℕ). take 419 m ++ r)
     (done.after
