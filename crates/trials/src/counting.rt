@@ -1,5 +1,6 @@
 // Counts, which stay at the greatest number that there is once they have come to it.
-ghost use Rattle.std.specs.Prelude.{◌≡◌, ◌+◌, ◌-◌, ◌^◌, min, slice_index, slice_set};
+ghost use Rattle.std.specs.Prelude.{◌≡◌, ◌+◌, ◌-◌, ◌^◌, Some, min, slice_index, slice_set};
+ghost use Rattle.trials.specs.Written.{after_spaces};
 
 use std::fmt;
 
@@ -28,6 +29,8 @@ impl<const N: usize> Counts<N> {
 
 // Each count, with a space in front.
 impl<const N: usize> fmt::Display for Counts<N> {
+    ghost output = { λ c. Some (after_spaces c.counts) };
+
     fn fmt<W: fmt::Write>(&self, f: &mut fmt::Formatter<W>) -> fmt::Result {
         for count in self.counts.iter() {
             write!(f, " {count}")?;
