@@ -17,6 +17,10 @@ pub record Stands (r : Reader) (s : State) : Type 0 where
   pub stand : r.stand ≡ s.stand
   pub draft : Drawn r.draft s.built
 
+-- a reader stands somewhere, and that is sound
+abbrev pub IsSound : Reader → Type 0
+IsSound r = (s : State) × Stands r s × Sound s
+
 -- what a byte answers: whether a pattern may go on with it, or what could have stood there
 abbrev pub Stepped : ℕ → State → Reader → Result (Unit {0}) Expected → Type 0
 Stepped b s after (Ok u) = (t : State) × (next b (ready b s) ≡ Some t) × Stands after t × Sound t

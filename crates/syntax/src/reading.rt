@@ -44,13 +44,10 @@ pub fn row_of(text: &[u8]) -> Result<Row, Stop>
             return Err(Stop { at, expected });
         }
     }
-    match reader.finish() {
-        Ok(row) => Ok(row),
-        Err(expected) => Err(Stop {
-            at: text.len(),
-            expected,
-        }),
-    }
+    reader.finish().map_err(|expected| Stop {
+        at: text.len(),
+        expected,
+    })
 }
 
 // The text's pattern, as numbers at the front of the lent row: how many there are. A refusal leaves the row as it was.

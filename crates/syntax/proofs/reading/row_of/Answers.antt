@@ -1,5 +1,10 @@
-use Rattle.std.proofs.Common.{◌≡◌, length, sym, refl, ap, ◌∙◌, arith}
-use Rattle.syntax.specs.Reading.{refused, begun}
+use Rattle.std.proofs.Common.{◌≡◌, ℕ, Ok, Err, Result, rules, length, sym, refl, ap, ◌∙◌, arith}
+use Rattle.syntax.specs.Reading.{State, Reading, ended, settled, begun}
+use Rattle.std.specs.Result.{MatchResult, IsErrAnd}
+use Rattle.arrayvec.specs.ArrayVec.{ArrayVec}
+use Rattle.syntax.specs.declared.expects.Expected.{Expected}
+use Rattle.syntax.specs.declared.reading.Stop.{Stop}
+use Rattle.syntax.specs.Readers.{Finished, Rowed}
 use Rattle.syntax.proofs.Staying.{sound_begun, left_on, left_refused, left_none, rowed_refused, rowed_means}
 use Rattle.syntax.proofs.reading.row_of.Goals as goal
 
@@ -26,17 +31,17 @@ loop-at-preserved c =
 pub finish-requires : goal.finish-requires
 finish-requires c = let inv = c.loop-at.invariant in (inv.0, inv.1, inv.2)
 
-pub returns-in-Err-finish : goal.returns-in-Err-finish
-returns-in-Err-finish c =
+-- the end of a text, where its refusal gets its place
+finished : (r : Result (ArrayVec ℕ) Expected) (m : Result (ArrayVec ℕ) Stop) (s : State) (n : ℕ) (all : Reading) (Q : Expected → Stop → Type 0) → ((e : Expected) (x : Stop) → Q e x → x ≡ record { at = n; expected = e })
+    → MatchResult r (λ x. m ≡ Ok x) (λ e. IsErrAnd m (Q e)) → all ≡ ended n (settled s) → Finished s r → Rowed all m
+finished (Ok row) m s n all Q q h e f = let yes = f n in rw h (rowed_means all yes.0 row (e ∙ yes.1) yes.2)
+finished (Err d) (Ok row) s n all Q q h e f = absurd h
+finished (Err d) (Err x) s n all Q q h e f = rw (q d x h) (rowed_refused all n d d (e ∙ f n) refl)
+
+pub returns : goal.returns
+returns c =
     let text = c.args.text.now in
     let inv = c.loop-at.invariant in
     let at : c.loop-at.at ≡ length text = omega arith in
-    let e = c.in-Err-finish.expected in
-    let no = c.in-Err-finish.ensures inv.0 inv.1 inv.2 c.loop-at.at in
-    rowed_refused _ (length text) e e (sym inv.3 ∙ left_none text c.loop-at.at inv.0 c.loop-at-test.false ∙ no ∙ ap (λ n. refused n e) at) refl
-
-pub returns-in-Ok : goal.returns-in-Ok
-returns-in-Ok c =
-    let inv = c.loop-at.invariant in
-    let yes = c.in-Ok.ensures inv.0 inv.1 inv.2 c.loop-at.at in
-    rowed_means _ yes.0 c.in-Ok.row (sym inv.3 ∙ left_none c.args.text.now c.loop-at.at inv.0 c.loop-at-test.false ∙ yes.1) yes.2
+    let end = sym inv.3 ∙ left_none text c.loop-at.at inv.0 c.loop-at-test.false ∙ ap (λ n. ended n (settled inv.0)) at in
+    finished c.finish.result c.map_err.result inv.0 (length text) _ _ (λ e x q. search rules) c.map_err.ensures.cases end (c.finish.ensures inv.0 inv.1 inv.2)
