@@ -9,7 +9,7 @@ ghost use Rattle.patterns.specs.Numbers.{pattern_in};
 ghost use Rattle.rows.specs.Finder.{lists, Finds};
 ghost use Rattle.rows.specs.declared.finder.FindError.TheVariants.{NoPattern, Memory};
 
-use crate::extension::all_go_on;
+use crate::extension::Extension;
 use crate::insertion::{rows_in_order, sorted};
 use crate::lateness::counted;
 use patterns::{Kept, PATTERN_WORDS, Refusal, keep};
@@ -48,7 +48,8 @@ fn rows_among(heap: Global, pattern: Kept<'_>, all: &[Event]) -> Result<Vec<Vec<
     let mut rows = Vec::new(heap);
     rows.push(Vec::new(heap))?;
     for step in 0..pattern.steps() {
-        rows = all_go_on(heap, pattern, step, all, &rows)?;
+        let extension = Extension { pattern, step, all };
+        rows = extension.all_go_on(heap, &rows)?;
     }
     Ok(rows)
 }

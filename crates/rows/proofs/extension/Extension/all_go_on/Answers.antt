@@ -3,17 +3,17 @@ use Rattle.timeline.specs.Lists.{each, flat}
 use Rattle.patterns.specs.Kept.{kept_step, kept_pattern}
 use Rattle.rows.specs.Finder.{lists, longer}
 use Rattle.rows.proofs.Flats.{flat_more, flat_over}
-use Rattle.rows.proofs.extension.all_go_on.Goals as goal
+use Rattle.rows.proofs.extension.Extension.all_go_on.Goals as goal
 
 pub loop-row-init : goal.loop-row-init
 unfolding each
 loop-row-init c =
-    let next = longer c.args.all.now (kept_pattern c.args.pattern.words.now).within (kept_step c.args.pattern.words.now c.args.step) in
+    let next = longer c.args.self.all.now (kept_pattern c.args.self.pattern.words.now).within (kept_step c.args.self.pattern.words.now c.args.self.step) in
     ap (λ vs. lists vs ++ flat next (lists c.args.rows.now)) c.new-long.ensures.items
 
 pub loop-row-preserved : goal.loop-row-preserved
 loop-row-preserved c =
-    let next = longer c.args.all.now (kept_pattern c.args.pattern.words.now).within (kept_step c.args.pattern.words.now c.args.step) in
+    let next = longer c.args.self.all.now (kept_pattern c.args.self.pattern.words.now).within (kept_step c.args.self.pattern.words.now c.args.self.step) in
     let rows = c.args.rows.now in
     let i = c.loop-row.row-index in
     let done = lists (vec_items c.loop-row.long) in
@@ -22,5 +22,5 @@ loop-row-preserved c =
 
 pub returns : goal.returns
 returns c =
-    let next = longer c.args.all.now (kept_pattern c.args.pattern.words.now).within (kept_step c.args.pattern.words.now c.args.step) in
+    let next = longer c.args.self.all.now (kept_pattern c.args.self.pattern.words.now).within (kept_step c.args.self.pattern.words.now c.args.self.step) in
     sym (flat_over next vec_items c.args.rows.now c.loop-row.row-index (lists (vec_items c.loop-row.long)) c.loop-row-test.false) ∙ c.loop-row.invariant

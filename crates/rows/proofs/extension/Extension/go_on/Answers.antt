@@ -7,8 +7,8 @@ use Rattle.patterns.specs.Kept.{kept_step, kept_pattern}
 use Rattle.rows.specs.Rows.{goes_on}
 use Rattle.rows.specs.Finder.{lists}
 use Rattle.rows.proofs.Passing.{rest_put, put_taken, put_passed, put_over}
-use Rattle.rows.proofs.extension.go_on.Goals as goal
-use Rattle.rows.proofs.extension.go_on.Goals.{then-may_go_on+in_ok-with_next+in_ok-push, else-may_go_on}
+use Rattle.rows.proofs.extension.Extension.go_on.Goals as goal
+use Rattle.rows.proofs.extension.Extension.go_on.Goals.{then-may_go_on+in_ok-with_next+in_ok-push, else-may_go_on}
 
 pub loop-e-init : goal.loop-e-init
 loop-e-init c = refl
@@ -16,9 +16,9 @@ loop-e-init c = refl
 pub loop-e-preserved : goal.loop-e-preserved
 unfolding each
 loop-e-preserved c =
-    let all = c.args.all.now in
+    let all = c.args.self.all.now in
     let row = c.args.row.now in
-    let test = goes_on all (kept_pattern c.args.pattern.words.now).within row (kept_step c.args.pattern.words.now c.args.step) in
+    let test = goes_on all (kept_pattern c.args.self.pattern.words.now).within row (kept_step c.args.self.pattern.words.now c.args.self.step) in
     let next : Event → List Event = λ e. row ++ e ∷ [] in
     let done = lists (vec_items c.loop-e.rows) in
     let i = c.loop-e.e-index in
@@ -35,6 +35,6 @@ loop-e-preserved c =
 
 pub returns : goal.returns
 returns c _ =
-    put_over (goes_on c.args.all.now (kept_pattern c.args.pattern.words.now).within c.args.row.now (kept_step c.args.pattern.words.now c.args.step))
-    (λ e. c.args.row.now ++ e ∷ []) c.args.all.now c.loop-e.e-index (lists (vec_items c.loop-e.rows)) c.loop-e-test.false
+    put_over (goes_on c.args.self.all.now (kept_pattern c.args.self.pattern.words.now).within c.args.row.now (kept_step c.args.self.pattern.words.now c.args.self.step))
+    (λ e. c.args.row.now ++ e ∷ []) c.args.self.all.now c.loop-e.e-index (lists (vec_items c.loop-e.rows)) c.loop-e-test.false
     ∙ c.loop-e.invariant
