@@ -69,9 +69,6 @@ run_every f (suc n) a h j k l = elim (eq-or-lt_of_le k) [ inl e ↦ (rw e at par
     parts : (f a ≡ true) × (every f (run (suc a) n) ≡ true)
     parts = and_parts (f a) (every f (run (suc a) n)) h
 
-pub every_not : (f : ℕ → Bool) (n a j : ℕ) → a ≤ j → j < a + n → f j ≡ false → every f (run a n) ≡ false
-every_not f n a j k l e = elim (cases_Bool (every f (run a n))) [ inl t ↦ absurd (true≢false (sym (run_every f n a t j k l) ∙ e)) | inr t ↦ t ]
-
 -- a test of so many of a list, said by their places
 pub every_taken : (test : ℕ → Bool) (xs : List ℕ) (n c : ℕ) → c + n ≤ length xs → list_all test (take n (drop c xs)) ≡ every (λ j. test (get_or xs j 0)) (run c n)
 unfolding every run

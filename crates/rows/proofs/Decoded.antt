@@ -1,7 +1,7 @@
 -- Events in two parts of numbers, read by their positions.
 use Rattle.std.proofs.Common.{◌≡◌, ℕ, zero, suc, ◌+◌, ◌-◌, ◌/◌, ◌<◌, ◌≤◌, List, [], ◌∷◌, ◌++◌, map, length, get_or, min, max, take, drop, sym, refl, ap, ◌∙◌, ap₂, get_or-take, get_or-drop, arith, length-append}
 use Rattle.std.specs.Simd.{first_chunks}
-use Rattle.std.proofs.lemmas.List.{length-map, length-take, length-drop}
+use Rattle.std.proofs.lemmas.List.{length-map, length-take}
 use Rattle.timeline.specs.declared.events.Event.{Event}
 use Rattle.timeline.specs.Order.{nth}
 use Rattle.timeline.specs.Ring.{decode}

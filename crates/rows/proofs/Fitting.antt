@@ -9,12 +9,8 @@ use Rattle.patterns.specs.Patterns.{Step, fits_step}
 use Rattle.rows.specs.Held.{Standing}
 use Rattle.rows.specs.Finding.{fits}
 use Rattle.rows.proofs.Positions.{nth_each}
+use Rattle.rows.proofs.Passing.{none_of_is}
 use Rattle.rows.proofs.Nevers.{broken}
-
-none_length : {A : Type 0} (xs : List A) → none_of xs ≡ eqb (length xs) 0
-unfolding none_of
-none_length [] = refl
-none_length (x ∷ xs) = sym (ne_eqb (suc (length xs)) 0 (λ e. omega arith))
 
 -- the position before the next one
 abbrev pub last_place : List ℕ → ℕ
@@ -32,7 +28,7 @@ module _ (h : List Event) (w : ℕ) (s : Step) (places : List ℕ) (earlier : Li
       ≡ (fits_step earlier e s.kind s.tests
       && pick (eqb (length places) 0) true (leb e.time ((nth h (get_or places 0 0)).time + w) && not (broken h earlier s (last_place places + 1) p)))
   unfolding fits
-  fits_is = rw (none_length places, st.are, is, add-one (last_place places)) refl
+  fits_is = rw (none_of_is places, st.are, is, add-one (last_place places)) refl
 
   -- it does not fit by itself
   pub fits_not : fits_step earlier e s.kind s.tests ≡ false → false ≡ fits h w s places p

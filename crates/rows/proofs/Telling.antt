@@ -5,12 +5,6 @@ use Rattle.timeline.specs.declared.events.Event.{Event}
 use Rattle.timeline.specs.Order.{before, nothing, nth}
 use Rattle.rows.specs.Rows.{row_before}
 
-pub nth_is : (es : List Event) (k : ℕ) → nth es k ≡ get_or es k nothing
-unfolding nth
-nth_is [] k = refl
-nth_is (e ∷ es) zero = refl
-nth_is (e ∷ es) (suc k) = nth_is es k
-
 -- where one of two rows is over, the shorter one is before
 short : (xs ys : List Event) → (length xs ≡ 0 → 0 < length ys → row_before xs ys ≡ true) × (length ys ≡ 0 → row_before xs ys ≡ false)
 unfolding row_before

@@ -11,6 +11,7 @@ pub fn counted(heap: Global, late: u64, events: &[Event]) -> Result<Vec<Event>, 
     ensures { IfOk result (λ v. (p : Pattern) → p.late ≡ late → v.items ≡ counted_of p events.now) }
 {
     let mut counted = Vec::new(heap);
+    // A loop and no chain: each event needs the latest time so far, and a push can fail.
     let mut latest: u64 = 0;
     for (i, e) in events.iter().enumerate() {
         if e.time >= latest.saturating_sub(late) {

@@ -81,7 +81,8 @@ fn is_placed(count: usize, upto: usize, steps: usize, cursor: Cursor) -> bool
 }
 
 impl Search<'_> {
-    // The first row from a cursor on: the last event is chosen first, then the others from the first on, each behind the one before.
+    // The first row from a cursor on: the last event is chosen first, then the others from the first on, each behind the one before. The
+    // loop counts nothing: each turn goes a level back, on at its level, or a level down.
     fn first_row(&self, upto: usize, cursor: Cursor) -> Option<Found>
         requires { placed (length self.now.held) upto (length (kept_pattern self.now.kept.words.now).steps) cursor ≡ true }
         ensures { result ≡ found_first self.now.held (kept_pattern self.now.kept.words.now) cursor (to_come self.now.held (kept_pattern self.now.kept.words.now) upto cursor) }

@@ -1,7 +1,7 @@
 use Rattle.std.proofs.Common.{◌≡◌, ◌+◌, ◌<◌, true, false, leb, get_or, sym, ap, ◌∙◌, rules}
 use Rattle.timeline.specs.Lists.{none_of}
 use Rattle.timeline.specs.Order.{before, last_of, nothing}
-use Rattle.rows.proofs.Telling.{nth_is}
+use Rattle.timeline.proofs.Order.{nth_is}
 use Rattle.rows.proofs.Passing.{none_of_is, window_end}
 use Rattle.rows.proofs.extension.is_behind.Goals as goal
 

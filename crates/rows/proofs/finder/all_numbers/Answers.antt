@@ -21,6 +21,3 @@ loop-row-preserved c =
     ∙ ap₂ (λ ns n. ns ++ n ∷ []) c.loop-row.invariant (c.in_ok-numbers.ensures ∙ ap numbers c.deref.ensures.value)
     ∙ sym (each_append numbers (lists (take i rows)) (vec_items row ∷ []))
     ∙ ap (each numbers) (each_more vec_items rows i row row c.loop-row-test.true c.row-item.is)
-
-pub returns : goal.returns
-returns c = c.loop-row.invariant ∙ ap (each numbers) (each_over vec_items c.args.rows.now c.loop-row.row-index c.loop-row-test.false)

@@ -1,4 +1,4 @@
-use Rattle.std.proofs.Common.{◌+◌, ltb, take, ◌∙◌, rules, tests, arith}
+use Rattle.std.proofs.Common.{ltb, take, ◌∙◌, rules, tests, arith}
 use Rattle.std.proofs.lemmas.Iterator.{YieldsList-from_slice}
 use Rattle.std.proofs.lemmas.Iterator.Search.{all_from_yields_List}
 use Rattle.rows.proofs.Chosen.{every_taken}

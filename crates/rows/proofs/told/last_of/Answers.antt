@@ -2,7 +2,7 @@ use Rattle.std.proofs.Common.{◌-◌, length, sym, ap, ◌∙◌}
 use Rattle.std.specs.Option.{unwrap_or}
 use Rattle.std.proofs.lemmas.Option.{unwrap_or-slice_get}
 use Rattle.timeline.specs.Order.{nothing}
-use Rattle.rows.proofs.Telling.{nth_is}
+use Rattle.timeline.proofs.Order.{nth_is}
 use Rattle.rows.proofs.told.last_of.Goals as goal
 
 pub returns : goal.returns

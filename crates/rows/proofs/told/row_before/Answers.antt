@@ -1,6 +1,4 @@
-use Rattle.std.proofs.Common.{◌≡◌, false, true, length, sym, ap, inl, inr, arith}
-use Rattle.std.specs.Iterator.Adapters.{zip_first, zip_second}
-use Rattle.std.specs.Slice.Iter.{iter_rest}
+use Rattle.std.proofs.Common.{length, sym, ap, inl, inr, arith}
 use Rattle.rows.proofs.Telling.{row_first, row_second, row_same, row_over}
 use Rattle.rows.proofs.told.row_before.Goals as goal
 

@@ -10,9 +10,6 @@ use Rattle.rows.proofs.Passing.{rest_put, put_taken, put_passed, put_over}
 use Rattle.rows.proofs.extension.Extension.go_on.Goals as goal
 use Rattle.rows.proofs.extension.Extension.go_on.Goals.{then-may_go_on+in_ok-with_next+in_ok-push, else-may_go_on}
 
-pub loop-e-init : goal.loop-e-init
-loop-e-init c = refl
-
 pub loop-e-preserved : goal.loop-e-preserved
 unfolding each
 loop-e-preserved c =

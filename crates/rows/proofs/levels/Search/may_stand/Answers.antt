@@ -1,4 +1,4 @@
-use Rattle.std.proofs.Common.{◌+◌, ◌-◌, eqb, sym, ap, ◌∙◌, ap₂, arith}
+use Rattle.std.proofs.Common.{◌-◌, eqb, sym, ap, ◌∙◌, ap₂, arith}
 use Rattle.patterns.specs.Kept.{kept_step}
 use Rattle.patterns.proofs.Steps.{steps_six}
 use Rattle.rows.proofs.LevelOk.{ok_one, ok_last, ok_not, ok_mid, ok_end}
@@ -20,15 +20,15 @@ returns-then-depth-eq0 c =
 pub returns-then-not-fits_at : goal.returns-then-not-fits_at
 returns-then-not-fits_at c =
     ok_not c.args.self.now.held c.args.self.now.kept.words.now c.args.choice.now.at c.args.choice.now.depth c.if-depth-eq0.false c.requires.few
-    (omega (arith, steps_six c.args.self.now.kept.words.now, c.requires.few, c.told-choice)) c.if-not-fits_at.ensures
+    (omega (arith, steps_six c.args.self.now.kept.words.now, c.requires.few)) c.if-not-fits_at.ensures
 
 pub returns-then-depth-steps : goal.returns-then-depth-steps
 returns-then-depth-steps c =
     ok_mid c.args.self.now.held c.args.self.now.kept.words.now c.args.choice.now.at c.args.choice.now.depth c.if-depth-eq0.false c.requires.few
-    (omega (arith, steps_six c.args.self.now.kept.words.now, c.requires.few, c.told-choice)) c.if-not-fits_at.ensures (λ e. c.if-depth-steps.true (e ∙ sym c.steps-steps.ensures))
+    (omega (arith, steps_six c.args.self.now.kept.words.now, c.requires.few)) c.if-not-fits_at.ensures (λ e. c.if-depth-steps.true (e ∙ sym c.steps-steps.ensures))
 
 pub returns : goal.returns
 returns c =
     c.fits_at-3.ensures
     ∙ ok_end c.args.self.now.held c.args.self.now.kept.words.now c.args.choice.now.at c.args.choice.now.depth c.if-depth-eq0.false c.requires.few
-    (omega (arith, steps_six c.args.self.now.kept.words.now, c.requires.few, c.told-choice)) c.if-not-fits_at.ensures (c.if-depth-steps.false ∙ c.steps-steps.ensures)
+    (omega (arith, steps_six c.args.self.now.kept.words.now, c.requires.few)) c.if-not-fits_at.ensures (c.if-depth-steps.false ∙ c.steps-steps.ensures)

@@ -6,17 +6,14 @@ use Rattle.rows.proofs.Pruning.{kept_kind_not}
 use Rattle.rows.proofs.OtherWho.{either_who}
 use Rattle.rows.proofs.levels.Search.next_asked.Goals as goal
 
-pub returns : goal.returns
-returns c =
+pub returns-clause-passed : goal.returns-clause-passed
+returns-clause-passed c =
     let words = c.args.self.now.kept.words.now in
     let h = c.args.self.now.held in
-    record {
-      bounds = c.next_of_who.ensures.bounds;
-      passed = λ i l k.
-          either_who (nth h i).who c.in-Some.who
-          (λ t.
-          kept_kind_not h words c.args.choice.now.at c.args.choice.now.depth i c.kind_of-kind.result c.requires.few
-          (c.kind_of-kind.ensures ∙ ap (λ s. (kept_step words s).kind) (c.level_step.ensures ∙ ap (λ n. level_step n c.args.choice.now.depth) c.steps.ensures))
-          (c.next_of_who.ensures.passed i l k t))
-          (λ t. c.in-Some.ensures i t (omega (arith, c.next_of_who.ensures.bounds, c.requires.inside)));
-    }
+    λ i l k.
+    either_who (nth h i).who c.in-Some.who
+    (λ t.
+    kept_kind_not h words c.args.choice.now.at c.args.choice.now.depth i c.kind_of-kind.result c.requires.few
+    (c.kind_of-kind.ensures ∙ ap (λ s. (kept_step words s).kind) (c.level_step.ensures ∙ ap (λ n. level_step n c.args.choice.now.depth) c.steps.ensures))
+    (c.next_of_who.ensures.passed i l k t))
+    (λ t. c.in-Some.ensures i t (omega (arith, c.next_of_who.ensures.bounds, c.requires.inside)))
