@@ -1,8 +1,7 @@
 -- What a step asks of a position, in the order in which it is asked.
-use Rattle.std.proofs.Common.{◌≡◌, ℕ, suc, ◌+◌, ◌-◌, ◌<◌, true, false, not, ◌&&◌, eqb, leb, List, [], ◌∷◌, length, get_or, take, drop, sym, refl, ap, ◌∙◌, add-one, arith, length-take, length-drop, get_or-take, get_or-drop}
-use Rattle.std.proofs.lemmas.Bool.{ne_eqb}
+use Rattle.std.proofs.Common.{◌≡◌, ℕ, ◌+◌, ◌-◌, ◌<◌, true, false, not, ◌&&◌, eqb, leb, List, length, get_or, take, drop, sym, refl, ap, ◌∙◌, add-one, arith, length-take, length-drop, get_or-take, get_or-drop}
 use Rattle.timeline.specs.declared.events.Event.{Event}
-use Rattle.timeline.specs.Lists.{pick, none_of}
+use Rattle.timeline.specs.Lists.{pick}
 use Rattle.timeline.specs.Order.{nothing, nth}
 use Rattle.timeline.proofs.Order.{nth_is}
 use Rattle.patterns.specs.Patterns.{Step, fits_step}

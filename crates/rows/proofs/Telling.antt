@@ -1,8 +1,8 @@
 -- Two rows side by side, and a row's last event.
-use Rattle.std.proofs.Common.{◌≡◌, ℕ, zero, suc, ◌+◌, ◌<◌, ◌⊎◌, true, false, ltb, List, [], ◌∷◌, length, get_or, sym, refl, ◌∙◌, ap₂, inl, inr, arith}
+use Rattle.std.proofs.Common.{◌≡◌, ◌+◌, ◌<◌, ◌⊎◌, true, false, ltb, List, [], ◌∷◌, length, sym, refl, ◌∙◌, ap₂, inl, inr, arith}
 use Rattle.std.proofs.lemmas.Bool.{cases_lt, lt-ltb, le-ltb}
 use Rattle.timeline.specs.declared.events.Event.{Event}
-use Rattle.timeline.specs.Order.{before, nothing, nth}
+use Rattle.timeline.specs.Order.{before}
 use Rattle.rows.specs.Rows.{row_before}
 
 -- where one of two rows is over, the shorter one is before

@@ -3,7 +3,7 @@ use Rattle.timeline.specs.Lists.{each}
 use Rattle.timeline.proofs.Each.{each_append}
 use Rattle.rows.specs.Known.{numbers}
 use Rattle.rows.specs.Finder.{lists}
-use Rattle.rows.proofs.Eaches.{each_more, each_over}
+use Rattle.rows.proofs.Eaches.{each_more}
 use Rattle.rows.proofs.finder.all_numbers.Goals as goal
 
 pub loop-row-init : goal.loop-row-init
