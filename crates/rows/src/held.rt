@@ -151,7 +151,7 @@ impl<'a> Held<'a> {
         ensures found { from < result → (result < end) × (((nth self.now result).kind == kind) ≡ true) }
         ensures last { (i : ℕ) → result < i → i < end → ((nth self.now i).kind == kind) ≡ false }
     {
-        // By positions: from the end there is no one slice to look through.
+        // By positions: `find` over them leaves it open that those behind were passed, and a look through each part from its end is longer.
         for p in (from..end).rev() {
             if self.get(p).kind == kind {
                 return p;
