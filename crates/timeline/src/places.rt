@@ -1,12 +1,23 @@
 // Where a time belongs in a rising row of times.
 ghost use Rattle.std.specs.Prelude.{◌≡◌};
-ghost use Rattle.timeline.specs.Places.{place_of, smaller};
+ghost use Rattle.timeline.specs.Places.{place_of, refusal_number, smaller};
 
-// The row does not rise; specs/Places says its number as a refusal.
+// The row does not rise.
 #[derive(Clone, Copy, Debug, PartialEq, Eq)]
 pub struct NotRising;
 
-// The place of a time behind all times of the row that are not above it; refused where the row does not rise.
+// The number of the refusal.
+const NOT_RISING: u64 = 1;
+
+impl From<NotRising> for u64 {
+    ghost from_gives = { λ refusal number. number ≡ refusal_number refusal };
+
+    fn from(_refusal: NotRising) -> u64 {
+        NOT_RISING
+    }
+}
+
+// The place of a time behind all times of the row that are not above it; refused, with 1, where the row does not rise.
 // Each number of the row is looked at once, so that the test and the count are one loop.
 pub fn place(time: u64, times: &[u64]) -> Result<u64, NotRising>
     ensures { result ≡ place_of time times.now }

@@ -68,4 +68,5 @@ fn places_a_time(rt: HostRuntime) {
     assert_eq!(rt; place(5, &[1, 5, 5, 9]), Ok(3));
     assert_eq!(rt; place(5, &[]), Ok(0));
     assert_eq!(rt; place(5, &[2, 1]), Err(NotRising));
+    assert_eq!(rt; u64::from(NotRising), 1);
 }
