@@ -1,4 +1,3 @@
 mod Chunks
-mod Digits
 mod ByByte
 mod Marks

@@ -1,6 +1,6 @@
 -- Events in bytes: an event is four numbers, its time, its kind, who and its value. Which of them are too large.
 -- Assumes nothing: these are definitions.
-use Rattle.std.specs.Prelude.{ℕ, suc, ◌/◌, ◌%◌, List, [], ◌∷◌, map, length, Some, None, Option, ◌==◌, nat_lt, slice_index}
+use Rattle.std.specs.Prelude.{ℕ, suc, ◌/◌, ◌%◌, List, [], ◌∷◌, map, length, Some, None, Option, Result, Ok, Err, ◌==◌, nat_lt, slice_index}
 use Rattle.std.specs.Simd.{first_chunks}
 use Rattle.timeline.specs.declared.events.Event.{Event}
 use Rattle.timeline.specs.Lists.{pick}
@@ -32,6 +32,14 @@ too_large e =
     pick (nat_lt e.time 4611686018427387904)
     (pick (nat_lt e.kind 65536) (pick (nat_lt e.who 4611686018427387904) (pick (nat_lt e.value 4611686018427387904) None (Some Value)) (Some Who)) (Some Kind))
     (Some Time)
+
+-- an event that can be told of, or why it can't
+abbrev pub sound_or : Event → Option Part → Result Event Fault
+sound_or e None = Ok e
+sound_or e (Some part) = Err (TooLarge e.heard part)
+
+abbrev pub sound : Event → Result Event Fault
+sound e = sound_or e (too_large e)
 
 -- the events in front of the first that can't be told of
 unfoldable pub front_of : List Event → List Event

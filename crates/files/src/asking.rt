@@ -1,6 +1,7 @@
-// The pattern that a program is called with: a file of numbers, a file in which it is typed, or the text itself.
+// What a program is called with: a pattern, as a file of numbers, a file in which it is typed or the text itself; and what stands behind it.
 use crate::complaining::complaint;
 use crate::failing::{Failed, read_file, read_pattern};
+use std::env;
 use std::env::Args;
 use std::io::Write;
 use syntax::{Unread, numbers};
@@ -50,4 +51,53 @@ impl PatternSource {
             PatternSource::Text(text) => read_typed(rt, "pattern", text.as_bytes()),
         }
     }
+}
+
+// A pattern, and the path of a file of events.
+#[derive(Drop)]
+pub struct PatternAndEvents {
+    pub pattern: PatternSource,
+    pub events: String,
+}
+
+// What the words of a command line can say behind a program's name.
+pub trait Words: Drop {
+    // What stands behind the pattern, as a usage names it.
+    const BEHIND_PATTERN: &'static str;
+
+    // What the next words say; None where they are too few.
+    fn next_of(args: &mut Args) -> Option<Self>;
+}
+
+impl Words for PatternSource {
+    const BEHIND_PATTERN: &'static str = "";
+
+    fn next_of(args: &mut Args) -> Option<PatternSource> {
+        PatternSource::next(args)
+    }
+}
+
+impl Words for PatternAndEvents {
+    const BEHIND_PATTERN: &'static str = " EVENTS";
+
+    fn next_of(args: &mut Args) -> Option<PatternAndEvents> {
+        Some(PatternAndEvents {
+            pattern: PatternSource::next(args)?,
+            events: args.next()?,
+        })
+    }
+}
+
+// What a program's words say; or how it is called, said on standard error.
+pub fn asked<W: Words>(rt: &HostRuntime, program: &str) -> Result<W, Failed> {
+    let mut args = env::args(rt)?;
+    let _program = args.next();
+    if let (Some(words), None) = (W::next_of(&mut args), args.next()) {
+        return Ok(words);
+    }
+    let behind = W::BEHIND_PATTERN;
+    eprintln!(rt;
+        "usage: {program} PATTERN{behind}, {program} -t TEXTFILE{behind} or {program} -e TEXT{behind} (- is standard input)"
+    )?;
+    Err(Failed::Said)
 }

@@ -22,9 +22,6 @@ pub fn numbers(heap: Global, bytes: &[u8]) -> Result<Option<Vec<u64>>, AllocErro
     if !left.is_empty() {
         return Ok(None);
     }
-    let mut numbers = Vec::new(heap);
-    for eight in whole {
-        numbers.push(number(*eight))?;
-    }
+    let numbers = whole.iter().map(|eight| number(*eight)).collect(heap)?;
     Ok(Some(numbers))
 }

@@ -3,8 +3,7 @@ ghost use Rattle.std.specs.Prelude.{◌≡◌, ◌<◌, ◌≤◌, ◌++◌, map
 ghost use Rattle.files.specs.Complaints.{expected_text, shown_byte, under_byte, mark_of, digit_more, cause_of, headline as headline_of, marked, complaint as complaint_of};
 
 use crate::expecting::expected_text;
-use crate::lines::Line;
-use crate::lining::{line_rest, without_white};
+use crate::lines::{Line, line_rest, without_white};
 use std::alloc::{AllocError, Global};
 use syntax::{Expected, is_digit};
 
@@ -32,24 +31,6 @@ fn under_byte(byte: u8) -> u8
     ensures { result ≡ under_byte byte }
 {
     if byte == TAB { TAB } else { SPACE }
-}
-
-fn put_shown(said: &mut Vec<u8>, bytes: &[u8]) -> Result<(), AllocError>
-    ensures { OnOk result (said.new.items ≡ said.old.items ++ map shown_byte bytes.now) }
-{
-    for byte in bytes {
-        said.push(shown_byte(*byte))?;
-    }
-    Ok(())
-}
-
-fn put_under(said: &mut Vec<u8>, bytes: &[u8]) -> Result<(), AllocError>
-    ensures { OnOk result (said.new.items ≡ said.old.items ++ map under_byte bytes.now) }
-{
-    for byte in bytes {
-        said.push(under_byte(*byte))?;
-    }
-    Ok(())
 }
 
 // Where the mark stands.
@@ -101,15 +82,15 @@ fn headline(
 fn put_marked(said: &mut Vec<u8>, front: &[u8], back: &[u8]) -> Result<(), AllocError>
     ensures { OnOk result (said.new.items ≡ said.old.items ++ marked front.now back.now) }
 {
-    put_shown(said, front)?;
-    put_shown(said, back)?;
+    said.extend(front.iter().copied().map(shown_byte))?;
+    said.extend(back.iter().copied().map(shown_byte))?;
     said.extend_from_slice(b"\n")?;
-    put_under(said, front)?;
+    said.extend(front.iter().copied().map(under_byte))?;
     said.extend_from_slice(b"^\n")?;
     Ok(())
 }
 
-// What is said of a text that is refused at a byte (or at its end), where this could have stood.
+// What is said of a text that is refused at a byte (or at its end), where this could have stood: bytes, since the text need not be UTF-8.
 pub fn complaint(
     heap: Global,
     text: &[u8],

@@ -1,6 +1,7 @@
 // Events from bytes.
-ghost use Rattle.std.specs.Prelude.{◌≡◌, [], IfOk};
-ghost use Rattle.files.specs.Events.{event_in, events_in, front_of, fault_from, fault_in};
+ghost use Rattle.std.specs.Prelude.{◌≡◌, [], is_ok, IfOk};
+ghost use Rattle.patterns.specs.Limits.{an_event};
+ghost use Rattle.files.specs.Events.{event_in, events_in, front_of, sound, fault_from, fault_in};
 
 use crate::bytes::{NUMBER_BYTES, number};
 use crate::faults::{Fault, too_large};
@@ -24,21 +25,33 @@ pub fn event(heard: u64, bytes: &[u8; EVENT_BYTES]) -> Event
     }
 }
 
-// What bytes say: the events, numbered from 0, up to where it goes wrong, and how.
-#[derive(Drop)]
-pub struct Reading {
-    pub events: Vec<Event>,
-    pub fault: Option<Fault>,
+// The same where it can be told of, or why not.
+pub fn sound_event(heard: u64, bytes: &[u8; EVENT_BYTES]) -> Result<Event, Fault>
+    ensures value { result ≡ sound (event_in heard bytes.now) }
+    ensures test { is_ok result ≡ an_event (event_in heard bytes.now) }
+{
+    let event = event(heard, bytes);
+    match too_large(event) {
+        Some(part) => Err(Fault::TooLarge(heard, part)),
+        None => Ok(event),
+    }
 }
 
 // An event of which only so many bytes are there; none where that is none.
-fn cut_off(event: usize, left: usize) -> Option<Fault>
+pub fn cut_off(event: u64, left: usize) -> Option<Fault>
     ensures { result ≡ fault_from event [] left }
 {
     if left == 0 {
         return None;
     }
-    Some(Fault::CutOff(event as u64, left as u64))
+    Some(Fault::CutOff(event, left as u64))
+}
+
+// What bytes say: the events, numbered from 0, up to where it goes wrong, and how.
+#[derive(Drop)]
+pub struct Reading {
+    pub events: Vec<Event>,
+    pub fault: Option<Fault>,
 }
 
 pub fn events(heap: Global, bytes: &[u8]) -> Result<Reading, AllocError>
@@ -47,13 +60,14 @@ pub fn events(heap: Global, bytes: &[u8]) -> Result<Reading, AllocError>
     let (whole, left) = bytes.as_chunks::<EVENT_BYTES>();
     let mut events = Vec::new(heap);
     for (i, one) in whole.iter().enumerate() {
-        let e = event(i as u64, one);
-        if let Some(part) = too_large(e) {
-            let fault = Some(Fault::TooLarge(i as u64, part));
-            return Ok(Reading { events, fault });
+        match sound_event(i as u64, one) {
+            Ok(event) => events.push(event)?,
+            Err(fault) => {
+                let fault = Some(fault);
+                return Ok(Reading { events, fault });
+            }
         }
-        events.push(e)?;
     }
-    let fault = cut_off(whole.len(), left.len());
+    let fault = cut_off(whole.len() as u64, left.len());
     Ok(Reading { events, fault })
 }

@@ -1,16 +1,17 @@
 // Why a program ends with status 1, how it ends then, and the reading of a pattern's file.
-ghost use Rattle.std.specs.Prelude.{◌≡◌, true, false, is_ok, IfErr};
+ghost use Rattle.std.specs.Prelude.{◌≡◌, true, false, not, is_ok, is_some, IfErr};
 ghost use Rattle.std.specs.Process.{exit_status};
 ghost use Rattle.files.specs.Failures.{OfReading};
 ghost use Rattle.files.specs.declared.failing.Failed.TheVariants.{Memory, Output};
 
 use crate::bytes::numbers;
+use crate::faults::Fault;
 use crate::reading::read;
 use std::alloc::{AllocError, AllocFailed};
-use std::io;
 use std::process::ExitCode;
+use std::{fmt, io};
 
-#[derive(Drop)]
+#[derive(Debug, Drop)]
 pub enum Failed {
     // It was said already.
     Said,
@@ -57,17 +58,32 @@ pub fn ending(rt: &HostRuntime, program: &str, outcome: Result<(), Failed>) -> E
     }
 }
 
+// Says on standard error what is wrong with something of this name: how a program fails that has said so.
+pub fn said<D: fmt::Display>(rt: &HostRuntime, name: &str, wrong: &D) -> Failed
+    ensures { OfReading result }
+{
+    match eprintln!(rt; "{name}: {wrong}") {
+        Ok(()) => Failed::Said,
+        Err(_) => Failed::Output,
+    }
+}
+
+// Whether a file of events was whole, or where it went wrong, said on standard error.
+pub fn without_fault(rt: &HostRuntime, path: &str, fault: Option<Fault>) -> Result<(), Failed>
+    ensures success { is_ok result ≡ not (is_some fault) }
+    ensures failure { IfErr result OfReading }
+{
+    match fault {
+        Some(fault) => Err(said(rt, path, &fault)),
+        None => Ok(()),
+    }
+}
+
 // The bytes of a file, or why they can't be read, said on standard error.
 pub fn read_file(rt: &HostRuntime, path: &str) -> Result<Vec<u8>, Failed>
     ensures { IfErr result OfReading }
 {
-    match read(rt, path) {
-        Ok(bytes) => Ok(bytes),
-        Err(e) => {
-            eprintln!(rt; "{path}: {e}")?;
-            Err(Failed::Said)
-        }
-    }
+    read(rt, path).map_err(|e| said(rt, path, &e))
 }
 
 // The numbers of a pattern's file, or what is wrong with it, said on standard error.
@@ -75,8 +91,8 @@ pub fn read_pattern(rt: &HostRuntime, path: &str) -> Result<Vec<u64>, Failed> {
     let bytes = read_file(rt, path)?;
     let Some(row) = numbers(rt.alloc(), &bytes)? else {
         let length = bytes.len();
-        eprintln!(rt; "{path}: {length} bytes are no whole number of numbers of 8 bytes")?;
-        return Err(Failed::Said);
+        let wrong = format_args!("{length} bytes are no whole number of numbers of 8 bytes");
+        return Err(said(rt, path, &wrong));
     };
     Ok(row)
 }

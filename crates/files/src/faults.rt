@@ -13,7 +13,7 @@ const KINDS: u64 = 65_536;
 const NUMBERS: u64 = 4_611_686_018_427_387_904;
 
 // A number of an event.
-#[derive(Clone, Copy)]
+#[derive(Clone, Copy, Debug, PartialEq, Eq)]
 pub enum Part {
     Time,
     Kind,
@@ -22,7 +22,7 @@ pub enum Part {
 }
 
 // Where events in a file go wrong.
-#[derive(Clone, Copy)]
+#[derive(Clone, Copy, Debug, PartialEq, Eq)]
 pub enum Fault {
     // This event has a number that is too large.
     TooLarge(u64, Part),

@@ -1,6 +1,4 @@
-use Rattle.std.proofs.Common.{◌≡◌, ◌+◌, true, false, [], ◌++◌, length, vec_items, sym, refl, ap, ◌∙◌, subst, ap₂, arith}
-use Rattle.std.proofs.lemmas.Bool.{not-true, not-false}
-use Rattle.patterns.specs.Limits.{an_event}
+use Rattle.std.proofs.Common.{◌≡◌, ◌+◌, [], ◌++◌, length, vec_items, sym, refl, ap, ◌∙◌, subst, ap₂, arith}
 use Rattle.files.specs.Events.{events_from, front_of, fault_from}
 use Rattle.files.proofs.Chunks.{Read, read_next, read_stop, read_over}
 use Rattle.files.proofs.decoding.events.Goals as goal
@@ -12,12 +10,11 @@ loop-i-init c =
       fault = refl;
     }
 
-pub returns-in-Some : goal.returns-in-Some
-returns-in-Some c =
+pub returns-in-Err : goal.returns-in-Err
+returns-in-Err c =
     let cs = c.as_chunks.result.0.now in
-    let t : an_event c.event-e.result ≡ false = not-true (an_event c.event-e.result) (sym c.in-Some.ensures.test) in
     let stop = read_stop cs c.loop-i.i (length c.as_chunks.result.1.now) (vec_items c.loop-i.events) c.loop-i.invariant
-    c.event-e.result c.event-e.ensures c.loop-i-test.true c.in-Some.part t (sym c.in-Some.ensures.part) in (
+    c.loop-i-test.true c.in-Err.fault c.in-Err.ensures.value (sym c.in-Err.ensures.test) in (
       stop.0 ∙ ap (λ ds. front_of (events_from 0 ds)) c.as_chunks.ensures.front,
       stop.1 ∙ ap₂ (λ ds n. fault_from 0 (events_from 0 ds) n) c.as_chunks.ensures.front c.as_chunks.ensures.back_len,
     )
@@ -26,9 +23,8 @@ pub loop-i-preserved : goal.loop-i-preserved
 loop-i-preserved c =
     let cs = c.as_chunks.result.0.now in
     let left = length c.as_chunks.result.1.now in
-    let t : an_event c.event-e.result ≡ true = not-false (an_event c.event-e.result) (sym c.in_default.ensures.test) in
-    subst (Read cs (c.loop-i.i + 1) left) (sym c.in_ok-push.ensures.items)
-    (read_next cs c.loop-i.i left (vec_items c.loop-i.events) c.loop-i.invariant c.event-e.result c.event-e.ensures c.loop-i-test.true t (sym c.in_default.ensures.part))
+    subst (Read cs (c.loop-i.i + 1) left) (sym c.in_ok-push-in-Ok.ensures.items)
+    (read_next cs c.loop-i.i left (vec_items c.loop-i.events) c.loop-i.invariant c.loop-i-test.true c.in-Ok.event c.in-Ok.ensures.value (sym c.in-Ok.ensures.test))
 
 pub returns : goal.returns
 returns c =
