@@ -2,32 +2,21 @@
 #[cfg(test)]
 mod tests;
 
-use files::{EVENT_BYTES, Failed, Fault, event, push_line, too_large};
-use listener::{MEMORY_LONG, Told, step};
+use files::{EVENT_BYTES, Failed, Fault, Spaced, cut_off, sound_event};
+use listener::{Call, MEMORY_LONG, Told, step};
 use std::alloc::{AllocError, Global};
 use std::io::Write;
-use timeline::Event;
 
 // A row has at most so many numbers.
 const ROW: usize = 6;
 
-// What the listener can be told.
-const PATTERN: u64 = 0;
-
-const EVENT: u64 = 1;
-
-const END: u64 = 2;
-
-const NEXT: u64 = 3;
-
 #[derive(Drop)]
 pub struct Listening {
-    heap: Global,
     memory: Vec<u64>,
     // How many events came.
     count: u64,
-    // What is not yet written.
-    text: Vec<u8>,
+    // What is not yet written: whole lines alone.
+    text: String,
     // Where the events went wrong, if they did.
     pub fault: Option<Fault>,
 }
@@ -35,100 +24,83 @@ pub struct Listening {
 impl Listening {
     pub fn new(heap: Global) -> Result<Listening, AllocError> {
         Ok(Listening {
-            heap,
             memory: vec![in heap; 0; MEMORY_LONG]?,
             count: 0,
-            text: Vec::new(heap),
+            text: String::new(heap),
             fault: None,
         })
     }
 
-    fn say(&mut self, word: &str, n: u64) -> Result<(), AllocError> {
-        let said = format!(in self.heap; "{word} {n}\n")?;
-        self.text.extend_from_slice(said.as_bytes())
-    }
-
-    fn push_row(&mut self, row: &[u64]) -> Result<(), AllocError> {
-        push_line(&mut self.text, row)?;
-        self.text.extend_from_slice(b"\n")
-    }
-
-    // The whole row, or nothing of it where memory is wanting.
-    fn say_row(&mut self, row: &[u64]) -> Result<(), AllocError> {
-        let before = self.text.len();
-        let said = self.push_row(row);
-        if said.is_err() {
-            self.text.truncate(before);
-        }
-        said
-    }
-
-    // One act of the listener, and what it says then: whether it has to go on.
-    fn act(&mut self, kind: u64, row: &[u64]) -> Result<bool, Failed> {
+    // One act of the listener, and what it says then.
+    fn act(&mut self, call: Call, row: &[u64]) -> Result<Told, Failed> {
         let mut out = [0; ROW];
-        match step(&mut self.memory, kind, row, &mut out) {
+        let told = match step(&mut self.memory, u64::from(call), row, &mut out) {
+            Ok(told) => told,
+            Err(refusal) => {
+                let number = u64::from(refusal);
+                writeln!(self.text, "refused {number}")?;
+                return Err(Failed::Said);
+            }
+        };
+        match told {
             Told::Row(many) => {
-                let many = (many as usize).min(ROW);
-                self.say_row(&out[..many])?;
-                Ok(true)
+                let fits = Spaced(&out[..ROW.min(many as usize)]);
+                writeln!(self.text, "{fits}")?;
             }
             Told::Late => {
-                self.say("late", self.count)?;
-                Ok(false)
+                let count = self.count;
+                writeln!(self.text, "late {count}")?;
             }
-            Told::No(number) => {
-                self.say("refused", number)?;
-                Err(Failed::Said)
-            }
-            Told::Waits | Told::Over => Ok(false),
+            Told::Waits | Told::Over => {}
         }
+        Ok(told)
     }
 
     // One thing that the listener is told, and all that it says till it waits, is over, or refuses.
-    fn tell(&mut self, kind: u64, row: &[u64]) -> Result<(), Failed> {
-        let mut goes_on = self.act(kind, row)?;
+    fn tell(&mut self, call: Call, row: &[u64]) -> Result<(), Failed> {
+        let mut told = self.act(call, row)?;
+        // No call tells of so many rows.
         for _ in 0..u64::MAX {
-            if !goes_on {
+            let Told::Row(_) = told else {
                 break;
-            }
-            goes_on = self.act(NEXT, &[])?;
+            };
+            told = self.act(Call::Next, &[])?;
         }
         Ok(())
     }
 
     pub fn begin(&mut self, pattern: &[u64]) -> Result<(), Failed> {
-        self.tell(PATTERN, pattern)
+        self.tell(Call::Pattern, pattern)
     }
 
     pub fn finish(&mut self) -> Result<(), Failed> {
-        self.tell(END, &[])
+        self.tell(Call::End, &[])
     }
 
-    // The whole events of some bytes, up to one that is wrong.
-    pub fn hear(&mut self, bytes: &[u8]) -> Result<(), Failed> {
-        let (whole, _left) = bytes.as_chunks::<EVENT_BYTES>();
+    // The whole events of some bytes, up to one that is wrong: the bytes that are left behind the whole ones.
+    pub fn hear<'a>(&mut self, bytes: &'a [u8]) -> Result<&'a [u8], Failed> {
+        let (whole, left) = bytes.as_chunks::<EVENT_BYTES>();
         for one in whole {
-            let e = event(self.count, one);
-            if let Some(part) = too_large(e) {
-                self.fault = Some(Fault::TooLarge(self.count, part));
-                return Ok(());
+            match sound_event(self.count, one) {
+                Ok(e) => self.tell(Call::Event, &[e.time, e.kind, e.who, e.value])?,
+                Err(fault) => {
+                    self.fault = Some(fault);
+                    break;
+                }
             }
-            self.tell(EVENT, &[e.time, e.kind, e.who, e.value])?;
             self.count = self.count.saturating_add(1);
         }
-        Ok(())
+        Ok(left)
     }
 
     // An event of which only so many bytes came.
     pub fn cut_off(&mut self, left: usize) {
-        if left > 0 {
-            self.fault = Some(Fault::CutOff(self.count, left as u64));
-        }
+        self.fault = cut_off(self.count, left);
     }
 
     pub fn write(&mut self, rt: &HostRuntime) -> Result<(), Failed> {
         let mut out = rt.stdout();
-        out.write_all(&self.text)?;
+        out.write_all(self.text.as_bytes())?;
         out.flush()?;
         self.text.clear();
         Ok(())

@@ -4,11 +4,12 @@
 mod listening;
 mod source;
 
-use files::{EVENT_BYTES, Failed, PatternSource, ending};
+use files::{Failed, PatternAndEvents, asked, ending, without_fault};
 use listening::Listening;
 use source::Source;
-use std::env;
 use std::process::ExitCode;
+
+const PROGRAM: &str = "listen";
 
 // So many bytes are read at once at most.
 const CHUNK: usize = 65536;
@@ -21,9 +22,7 @@ fn hear_bytes(
 ) -> Result<Vec<u8>, Failed> {
     let heard = listening.hear(bytes);
     listening.write(rt)?;
-    heard?;
-    let whole = bytes.len() - bytes.len() % EVENT_BYTES;
-    Ok(bytes[whole..].to_vec(rt.alloc())?)
+    Ok(heard?.to_vec(rt.alloc())?)
 }
 
 // The same with more bytes behind those that were left.
@@ -60,39 +59,20 @@ fn hear_all(rt: &HostRuntime, path: &str, listening: &mut Listening) -> Result<(
 }
 
 // What is wrong with the events is said when all that came before it is told.
-fn run(rt: &HostRuntime, pattern: &PatternSource, events: &str) -> Result<(), Failed> {
+fn run(rt: &HostRuntime) -> Result<(), Failed> {
+    let PatternAndEvents { pattern, events } = asked(rt, PROGRAM)?;
     let row = pattern.read(rt)?;
     let mut listening = Listening::new(rt.alloc())?;
     let begun = listening.begin(&row);
     listening.write(rt)?;
     begun?;
-    hear_all(rt, events, &mut listening)?;
+    hear_all(rt, events.as_str(), &mut listening)?;
     let ended = listening.finish();
     listening.write(rt)?;
     ended?;
-    let Some(fault) = listening.fault else {
-        return Ok(());
-    };
-    eprintln!(rt; "{events}: {fault}")?;
-    Err(Failed::Said)
-}
-
-fn run_on_arguments(rt: &HostRuntime) -> Result<(), Failed> {
-    let mut args = env::args(rt)?;
-    let _program = args.next();
-    if let (Some(pattern), Some(events), None) = (
-        PatternSource::next(&mut args),
-        args.next(),
-        args.next(),
-    ) {
-        return run(rt, &pattern, events.as_str());
-    }
-    eprintln!(rt;
-        "usage: listen PATTERN EVENTS, listen -t TEXTFILE EVENTS or listen -e TEXT EVENTS (- is standard input)"
-    )?;
-    Err(Failed::Said)
+    without_fault(rt, events.as_str(), listening.fault)
 }
 
 fn main(rt: HostRuntime) -> ExitCode {
-    ending(&rt, "listen", run_on_arguments(&rt))
+    ending(&rt, PROGRAM, run(&rt))
 }

@@ -1,7 +1,7 @@
 // Bytes from a file or standard input.
 ghost use Rattle.std.specs.Prelude.{◌≤◌, length, IfOk};
 
-use files::Failed;
+use files::{Failed, said};
 use std::fs::File;
 use std::io::Read;
 use std::{fs, io};
@@ -23,13 +23,7 @@ impl Source {
 
     // The same, or why it can't be opened, said on standard error.
     pub fn open(rt: &HostRuntime, path: &str) -> Result<Source, Failed> {
-        match Source::at(rt, path) {
-            Ok(source) => Ok(source),
-            Err(e) => {
-                eprintln!(rt; "{path}: {e}")?;
-                Err(Failed::Said)
-            }
-        }
+        Source::at(rt, path).map_err(|e| said(rt, path, &e))
     }
 
     // Some bytes more in the buffer, as soon as there are some: how many, 0 at the end.
@@ -46,12 +40,6 @@ impl Source {
     pub fn more(&mut self, rt: &HostRuntime, path: &str, buffer: &mut [u8]) -> Result<usize, Failed>
         ensures { IfOk result (λ n. n ≤ length buffer.old) }
     {
-        match self.read(rt, buffer) {
-            Ok(n) => Ok(n),
-            Err(e) => {
-                eprintln!(rt; "{path}: {e}")?;
-                Err(Failed::Said)
-            }
-        }
+        self.read(rt, buffer).map_err(|e| said(rt, path, &e))
     }
 }

@@ -1,6 +1,6 @@
 // The listener told of bytes, on examples: what it says, and where the events go wrong.
 use crate::listening::Listening;
-use files::{Failed, Fault, Part};
+use files::{Failed, Fault, Part, PatternSource};
 use std::alloc::{AllocError, Global};
 use std::process::Abort;
 use std::test::Fail;
@@ -54,15 +54,15 @@ fn night(rt: HostRuntime) -> Result<(), Fail> {
     let heap = rt.alloc();
     let bytes = bytes_of(heap, &EVENTS)?;
     let mut listening = heard(&rt, heap, &NIGHT, &bytes)?;
-    assert!(rt; listening.text.as_slice() == SAID.as_bytes());
+    assert!(rt; listening.text.as_str() == SAID);
     assert!(rt; listening.finish().is_ok());
-    assert!(rt; listening.text.as_slice() == SAID.as_bytes());
+    assert!(rt; listening.text.as_str() == SAID);
     assert!(rt; listening.fault.is_none());
     let mut listening = heard(&rt, heap, &NIGHT, part(&bytes, 0, 160))?;
     assert!(rt; listening.hear(part(&bytes, 160, 224)).is_ok());
-    assert!(rt; listening.text.as_slice() == b"late 4\n".as_slice());
+    assert!(rt; listening.text.as_str() == "late 4\n");
     assert!(rt; listening.finish().is_ok());
-    assert!(rt; listening.text.as_slice() == SAID.as_bytes());
+    assert!(rt; listening.text.as_str() == SAID);
     assert_eq!(rt; listening.count, 7);
     Ok(())
 }
@@ -74,7 +74,7 @@ fn who(rt: HostRuntime) -> Result<(), Fail> {
     let bytes = bytes_of(heap, &[[100, 1, 7, 5], [101, 2, 8, 5], [102, 2, 7, 6]])?;
     let mut listening = heard(&rt, heap, &NIGHT, &bytes)?;
     assert!(rt; listening.finish().is_ok());
-    assert!(rt; listening.text.as_slice() == b"0 2\n".as_slice());
+    assert!(rt; listening.text.as_str() == "0 2\n");
     Ok(())
 }
 
@@ -88,7 +88,7 @@ fn faults(rt: HostRuntime) -> Result<(), Fail> {
     let mut listening = heard(&rt, heap, &NIGHT, &bytes)?;
     assert!(rt; matches!(listening.fault, Some(Fault::TooLarge(7, Part::Who))));
     assert!(rt; listening.finish().is_ok());
-    assert!(rt; listening.text.as_slice() == SAID.as_bytes());
+    assert!(rt; listening.text.as_str() == SAID);
     let mut listening = heard(&rt, heap, &NIGHT, part(&bytes, 0, 70))?;
     listening.cut_off(0);
     assert!(rt; listening.fault.is_none());
@@ -103,11 +103,38 @@ fn refusals(rt: HostRuntime) -> Result<(), Fail> {
     let heap = rt.alloc();
     let mut listening = Listening::new(heap)?;
     assert!(rt; matches!(listening.begin(&[60, 20, 0]), Err(Failed::Said)));
-    assert!(rt; listening.text.as_slice() == b"refused 1\n".as_slice());
+    assert!(rt; listening.text.as_str() == "refused 1\n");
     let doors = bytes_of(heap, &[[100, 1, 7, 0]; 8192])?;
     let mut listening = heard(&rt, heap, &NIGHT, &doors)?;
     assert!(rt; listening.text.is_empty());
     assert!(rt; matches!(listening.hear(part(&doors, 0, 32)), Err(Failed::Said)));
-    assert!(rt; listening.text.as_slice() == b"refused 8\n".as_slice());
+    assert!(rt; listening.text.as_str() == "refused 8\n");
+    Ok(())
+}
+
+// What the words of a command line name.
+fn named(heap: Global, words: &[&str]) -> Result<Option<PatternSource>, AllocError> {
+    let mut line = Vec::new(heap);
+    for word in words {
+        line.push(String::from_str(heap, word)?)?;
+    }
+    Ok(PatternSource::next(&mut line.into_iter()))
+}
+
+// The night's pattern typed in the command line; words that name a file; and words that name none.
+#[test]
+fn patterns_named(rt: HostRuntime) -> Result<(), Fail> {
+    let heap = rt.alloc();
+    let typed = "1 d; not 3; 2 l where l.who = d.who; within 60 late 20";
+    let source = named(heap, &["-e", typed, "events"])?.expect(&rt, "a pattern");
+    let row = source.read(&rt).expect(&rt, "its numbers");
+    assert!(rt; row.as_slice() == NIGHT.as_slice());
+    let source = named(heap, &["-t", "typed", "events"])?.expect(&rt, "a pattern");
+    assert!(rt; matches!(&source, PatternSource::TextFile(path) if path.as_str() == "typed"));
+    let source = named(heap, &["numbers", "events"])?.expect(&rt, "a pattern");
+    assert!(rt; matches!(&source, PatternSource::Numbers(path) if path.as_str() == "numbers"));
+    assert!(rt; named(heap, &["-t"])?.is_none());
+    assert!(rt; named(heap, &["-e"])?.is_none());
+    assert!(rt; named(heap, &[])?.is_none());
     Ok(())
 }
