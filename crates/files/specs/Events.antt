@@ -1,6 +1,6 @@
 -- Events in bytes: an event is four numbers, its time, its kind, who and its value. Which of them are too large.
 -- Assumes nothing: these are definitions.
-use Rattle.std.specs.Prelude.{ℕ, suc, ◌/◌, ◌%◌, List, [], ◌∷◌, map, length, Some, None, Option, Result, Ok, Err, ◌==◌, nat_lt, slice_index}
+use Rattle.std.specs.Prelude.{ℕ, suc, Bool, ◌/◌, ◌%◌, List, [], ◌∷◌, map, length, Some, None, Option, Result, Ok, Err, ◌==◌, not, nat_lt, slice_index}
 use Rattle.std.specs.Simd.{first_chunks}
 use Rattle.timeline.specs.declared.events.Event.{Event}
 use Rattle.timeline.specs.Lists.{pick}
@@ -25,6 +25,13 @@ events_from n (b ∷ bs) = event_in n b ∷ events_from (suc n) bs
 -- 32 bytes at a time; fewer than 32 at the end are left out
 abbrev pub events_in : List ℕ → List Event
 events_in bytes = events_from 0 (first_chunks 32 (length bytes / 32) bytes)
+
+-- whether a part of an event is too large
+abbrev pub part_too_large : Event → Part → Bool
+part_too_large e Time = not (nat_lt e.time 4611686018427387904)
+part_too_large e Kind = not (nat_lt e.kind 65536)
+part_too_large e Who = not (nat_lt e.who 4611686018427387904)
+part_too_large e Value = not (nat_lt e.value 4611686018427387904)
 
 -- the first part of an event that is too large, none of an event that can be told of
 abbrev pub too_large : Event → Option Part

@@ -6,6 +6,7 @@ ghost use Rattle.files.specs.Events.{event_in, events_in, front_of, sound, fault
 use crate::bytes::{NUMBER_BYTES, number};
 use crate::faults::{Fault, too_large};
 use std::alloc::{AllocError, Global};
+use std::array;
 use timeline::Event;
 
 // How many bytes an event has.
@@ -16,12 +17,13 @@ pub fn event(heard: u64, bytes: &[u8; EVENT_BYTES]) -> Event
     ensures { result ≡ event_in heard bytes.now }
 {
     let (numbers, _) = bytes.as_chunks::<NUMBER_BYTES>();
+    let [time, kind, who, value]: [u64; 4] = array::from_fn(|i| number(numbers[i]));
     Event {
         heard,
-        time: number(numbers[0]),
-        kind: number(numbers[1]),
-        who: number(numbers[2]),
-        value: number(numbers[3]),
+        time,
+        kind,
+        who,
+        value,
     }
 }
 
@@ -38,6 +40,7 @@ pub fn sound_event(heard: u64, bytes: &[u8; EVENT_BYTES]) -> Result<Event, Fault
 }
 
 // An event of which only so many bytes are there; none where that is none.
+#[tactic(auto, unfolding(crate::specs::Events::fault_from))]
 pub fn cut_off(event: u64, left: usize) -> Option<Fault>
     ensures { result ≡ fault_from event [] left }
 {

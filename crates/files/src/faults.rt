@@ -1,16 +1,12 @@
 // What can be wrong with an event in a file.
 ghost use Rattle.std.specs.Prelude.{◌≡◌, not, is_some, Some};
 ghost use Rattle.patterns.specs.Limits.{an_event};
-ghost use Rattle.files.specs.Events.{too_large};
+ghost use Rattle.files.specs.Events.{part_too_large, too_large};
 ghost use Rattle.files.specs.Shown.{part_shown, fault_shown};
 
+use patterns::layout::{KINDS, NUMBERS};
 use std::fmt;
 use timeline::Event;
-
-// Kinds are below this, and all other numbers of an event below that.
-const KINDS: u64 = 65_536;
-
-const NUMBERS: u64 = 4_611_686_018_427_387_904;
 
 // A number of an event.
 #[derive(Clone, Copy, Debug, PartialEq, Eq)]
@@ -21,6 +17,9 @@ pub enum Part {
     Value,
 }
 
+// In the order of an event's numbers.
+const PARTS: [Part; 4] = [Part::Time, Part::Kind, Part::Who, Part::Value];
+
 // Where events in a file go wrong.
 #[derive(Clone, Copy, Debug, PartialEq, Eq)]
 pub enum Fault {
@@ -30,24 +29,26 @@ pub enum Fault {
     CutOff(u64, u64),
 }
 
+impl Part {
+    // Whether this number of an event is too large.
+    fn is_too_large(self, e: Event) -> bool
+        ensures { result ≡ part_too_large e self }
+    {
+        match self {
+            Part::Time => e.time >= NUMBERS,
+            Part::Kind => e.kind >= KINDS,
+            Part::Who => e.who >= NUMBERS,
+            Part::Value => e.value >= NUMBERS,
+        }
+    }
+}
+
 // The first number of an event that is too large.
 pub fn too_large(e: Event) -> Option<Part>
     ensures part { result ≡ too_large e }
     ensures test { is_some result ≡ not (an_event e) }
 {
-    if e.time >= NUMBERS {
-        return Some(Part::Time);
-    }
-    if e.kind >= KINDS {
-        return Some(Part::Kind);
-    }
-    if e.who >= NUMBERS {
-        return Some(Part::Who);
-    }
-    if e.value >= NUMBERS {
-        return Some(Part::Value);
-    }
-    None
+    PARTS.iter().copied().find(|part| part.is_too_large(e))
 }
 
 impl fmt::Display for Part {
