@@ -1,4 +1,3 @@
 mod Chunks
 mod ByByte
-mod Marks
 mod Parts

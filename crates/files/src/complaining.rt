@@ -2,7 +2,7 @@
 ghost use Rattle.std.specs.Prelude.{◌≡◌, ◌<◌, ◌≤◌, ◌++◌, map, length, IfOk, string_bytes, OnOk};
 ghost use Rattle.files.specs.Complaints.{expected_text, shown_byte, under_byte, mark_of, digit_more, cause_of, headline as headline_of, marked, complaint as complaint_of};
 
-use crate::expecting::expected_text;
+use crate::expecting::Wanted;
 use crate::lines::{Line, line_rest, without_white};
 use std::alloc::{AllocError, Global};
 use syntax::{Expected, is_digit};
@@ -11,15 +11,11 @@ const TAB: u8 = b'\t';
 
 const SPACE: u8 = b' ';
 
-const DELETE: u8 = 127;
-
 // A byte as it is shown: control characters but for tabs as spaces.
 fn shown_byte(byte: u8) -> u8
     ensures { result ≡ shown_byte byte }
 {
-    if byte == TAB {
-        TAB
-    } else if byte < SPACE || byte == DELETE {
+    if byte != TAB && byte.is_ascii_control() {
         SPACE
     } else {
         byte
@@ -71,10 +67,11 @@ fn headline(
     line: u128,
     byte: u128,
     cause: &str,
-    wanted: &str,
+    expected: Expected,
 ) -> Result<String, AllocError>
-    ensures { IfOk result (λ s. string_bytes s ≡ headline_of line byte cause.now wanted.now) }
+    ensures { IfOk result (λ s. string_bytes s ≡ headline_of line byte cause.now (expected_text expected)) }
 {
+    let wanted = Wanted(expected);
     format!(in heap; "line {line}, byte {byte}: {cause}expected {wanted}\n")
 }
 
@@ -101,11 +98,10 @@ pub fn complaint(
 {
     let (front, back) = text.split_at(mark(text, at));
     let Line { number, start } = Line::last_of(front);
-    let (_, begun) = front.split_at(start);
-    let (rest, _) = back.split_at(line_rest(back));
+    let begun = &front[start..];
+    let rest = &back[..line_rest(back)];
     let byte = begun.len() as u128 + 1;
-    let wanted = expected_text(heap, expected)?;
-    let head = headline(heap, number, byte, cause(text, at), wanted.as_str())?;
+    let head = headline(heap, number, byte, cause(text, at), expected)?;
     let mut said = Vec::from_slice(heap, head.as_bytes())?;
     put_marked(&mut said, begun, rest)?;
     Ok(said)

@@ -1,12 +1,15 @@
 // What could have stood where a typed pattern is refused, in words.
-ghost use Rattle.std.specs.Prelude.{◌≡◌, IfOk, string_bytes};
-ghost use Rattle.files.specs.Complaints.{wanted_text, quoted as quoted_text, wanted_detail, expected_text};
+ghost use Rattle.std.specs.Prelude.{◌≡◌, Some};
+ghost use Rattle.files.specs.Complaints.{wanted_text, expected_text};
 
-use std::alloc::{AllocError, Global};
+use std::fmt;
 use syntax::Expected;
 
+#[derive(Clone, Copy)]
+pub struct Wanted(pub Expected);
+
 // But for what hangs on the text itself.
-fn wanted(expected: Expected) -> &'static str
+fn in_words(expected: Expected) -> &'static str
     ensures { result.now ≡ wanted_text expected }
 {
     match expected {
@@ -32,31 +35,21 @@ fn wanted(expected: Expected) -> &'static str
     }
 }
 
-fn quoted(heap: Global, text: &str) -> Result<String, AllocError>
-    ensures { IfOk result (λ s. string_bytes s ≡ quoted_text text.now) }
-{
-    format!(in heap; "`{text}`")
-}
+impl fmt::Display for Wanted {
+    ghost output = { λ w. Some (expected_text w.0) };
 
-// The letter, or the word that is broken off.
-fn detail(heap: Global, expected: Expected) -> Result<String, AllocError>
-    ensures { IfOk result (λ s. string_bytes s ≡ wanted_detail expected) }
-{
-    match expected {
-        Expected::OwnName(name) => {
-            let letter = name as char;
-            format!(in heap; "`{letter}`")
+    fn fmt<W: fmt::Write>(&self, f: &mut fmt::Formatter<W>) -> fmt::Result {
+        f.write_str(in_words(self.0))?;
+        match self.0 {
+            Expected::OwnName(name) => {
+                let letter = name as char;
+                write!(f, "`{letter}`")
+            }
+            Expected::RestOf(word, _) => {
+                let text = word.text();
+                write!(f, "`{text}`")
+            }
+            _ => Ok(()),
         }
-        Expected::RestOf(word, _) => quoted(heap, word.text()),
-        _ => Ok(String::new(heap)),
     }
-}
-
-pub fn expected_text(heap: Global, expected: Expected) -> Result<String, AllocError>
-    ensures { IfOk result (λ s. string_bytes s ≡ expected_text expected) }
-{
-    let mut text = String::from_str(heap, wanted(expected))?;
-    let detail = detail(heap, expected)?;
-    text.push_str(detail.as_str())?;
-    Ok(text)
 }
