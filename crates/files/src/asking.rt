@@ -88,7 +88,7 @@ impl Words for PatternAndEvents {
     }
 }
 
-// What a program's words say; or how it is called, said on standard error.
+// What a program's words say; or how it is called, said on standard error: in one line of its own, where `clap` would write another text.
 pub fn asked<W: Words>(rt: &HostRuntime, program: &str) -> Result<W, Failed> {
     let mut args = env::args(rt)?;
     let _program = args.next();

@@ -5,6 +5,7 @@ ghost use Rattle.files.specs.Events.{part_too_large, too_large};
 ghost use Rattle.files.specs.Shown.{part_shown, fault_shown};
 
 use patterns::layout::{KINDS, NUMBERS};
+use std::error::Error;
 use std::fmt;
 use timeline::Event;
 
@@ -51,6 +52,7 @@ pub fn too_large(e: Event) -> Option<Part>
     PARTS.iter().copied().find(|part| part.is_too_large(e))
 }
 
+// By hand, since a `Display` that `thiserror` writes has no `output` to hold it to.
 impl fmt::Display for Part {
     ghost output = { λ p. Some (part_shown p) };
 
@@ -77,3 +79,5 @@ impl fmt::Display for Fault {
         }
     }
 }
+
+impl Error for Fault {}
