@@ -1,5 +1,5 @@
 -- Tests as they are kept, and what they come to.
-use Rattle.std.proofs.Common.{◌≡◌, ℕ, zero, suc, ◌+◌, ◌-◌, ◌*◌, ◌<◌, ◌≤◌, not, eqb, ltb, List, [], ◌∷◌, length, get_or, take, refl, arith}
+use Rattle.std.proofs.Common.{◌≡◌, ℕ, zero, suc, ◌+◌, ◌-◌, ◌*◌, not, eqb, ltb, List, [], ◌∷◌, get_or, take, refl, arith}
 use Rattle.std.proofs.lemmas.Bool.{lt-ltb}
 use Rattle.std.proofs.lemmas.Bool.Decides.{nat_tests}
 use Rattle.timeline.specs.declared.events.Event.{Event}
@@ -9,17 +9,11 @@ use Rattle.patterns.specs.Patterns.{field, other_side, fits_step}
 use Rattle.patterns.specs.Kept.{at_most, kept_test, kept_tests, kept_never, kept_nevers, step_place, kept_step}
 
 -- the nth event of a list
-pub nth_in : (es : List Event) (i : ℕ) (d : Event) → i < length es → get_or es i d ≡ nth es i
+pub nth_or : (es : List Event) (i : ℕ) → nth es i ≡ get_or es i nothing
 unfolding nth
-nth_in [] i d l = absurd (omega arith)
-nth_in (e ∷ es) zero d l = refl
-nth_in (e ∷ es) (suc i) d l = nth_in es i d (omega arith)
-
-pub nth_past : (es : List Event) (i : ℕ) → length es ≤ i → nothing ≡ nth es i
-unfolding nth
-nth_past [] i l = refl
-nth_past (e ∷ es) zero l = absurd (omega arith)
-nth_past (e ∷ es) (suc i) l = nth_past es i (omega arith)
+nth_or [] i = refl
+nth_or (e ∷ es) zero = refl
+nth_or (e ∷ es) (suc i) = nth_or es i
 
 pub take_one : (f s : ℕ) → (f ≡ 0 → ⊥) → take f (s ∷ []) ≡ s ∷ []
 take_one zero s h = absurd (h refl)

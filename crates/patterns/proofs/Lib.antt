@@ -10,3 +10,5 @@ mod May
 mod Wholes
 mod Each
 mod Numbered
+mod Chunks
+mod Chains

@@ -55,6 +55,10 @@ kept_never c n = record { kind = slice_index c n; tests = kept_tests c (n + 1) }
 unfoldable pub kept_nevers : List ℕ → ℕ → List Never
 kept_nevers c n = each (λ i. kept_never c (n + 1 + 22 * i)) (run 0 (at_most 2 (slice_index c n)))
 
+-- the step that words of its own mean
+abbrev pub step_in : List ℕ → Step
+step_in c = record { kind = slice_index c 0; tests = kept_tests c 1; never = kept_nevers c 22 }
+
 -- where the words of a step begin
 abbrev pub step_place : ℕ → ℕ
 step_place s = 3 + 67 * s

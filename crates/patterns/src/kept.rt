@@ -1,25 +1,14 @@
-// A view of the 405 words in which a pattern is kept, and what stands in front.
-ghost use Rattle.std.specs.Prelude.{◌≡◌, ℕ, ◌≤◌, length, is_some, IfSome, ◌==◌, nat_lt, slice_index};
-ghost use Rattle.patterns.specs.Kept.{at_most, step_place, kept_step, kept_count, kept_pattern};
+// A view of the 405 words in which a pattern is kept, what stands in front, and its steps.
+ghost use Rattle.std.specs.Prelude.{◌≡◌, length, is_some, IfSome, ◌==◌};
+ghost use Rattle.patterns.specs.Kept.{step_in, kept_step, kept_count, kept_pattern};
 
 use crate::layout::{
     COUNT_AT, LATE_AT, MOST_STEPS, PATTERN_WORDS, STEP_WORDS, STEPS_AT, WITHIN_AT,
 };
+use crate::views::{StepView, at_most};
 
-// A count, but no more than the most there can be.
-pub fn at_most(most: usize, count: u64) -> usize
-    ensures { result ≡ at_most most count }
-{
-    count.min(most as u64) as usize
-}
-
-// Whether there is room for a step; where there is none, all words are read as 0.
-pub(crate) fn has_room(words: &[u64; PATTERN_WORDS], step: usize) -> bool
-    ensures test { result ≡ nat_lt step 6 }
-    ensures past { (n : ℕ) → 6 ≤ step → step_place step ≤ n → slice_index words.now n ≡ 0 }
-{
-    step < MOST_STEPS
-}
+// Where no step can be, all words are read as 0.
+const NO_STEP: [u64; STEP_WORDS] = [0; STEP_WORDS];
 
 // Whatever the words are, they are a pattern: counts that are too large are read as the most there can be.
 #[derive(Clone, Copy)]
@@ -27,16 +16,14 @@ pub struct Kept<'a> {
     pub words: &'a [u64; PATTERN_WORDS],
 }
 
-impl Kept<'_> {
+impl<'a> Kept<'a> {
     // The words as a pattern; None where they are not 405.
-    pub fn over(words: &[u64]) -> Option<Kept<'_>>
+    pub fn over(words: &'a [u64]) -> Option<Kept<'a>>
         ensures test { is_some result ≡ (length words.now == 405) }
         ensures made { IfSome result (λ k. k.words.now ≡ words.now) }
     {
-        match <&[u64; PATTERN_WORDS]>::try_from(words) {
-            Ok(words) => Some(Kept { words }),
-            Err(_) => None,
-        }
+        let words = words.as_array()?;
+        Some(Kept { words })
     }
 
     pub fn within(self) -> u64
@@ -58,14 +45,20 @@ impl Kept<'_> {
         at_most(MOST_STEPS, self.words[COUNT_AT])
     }
 
+    // A step; one of zeros where no step can be.
+    pub(crate) fn step(self, step: usize) -> StepView<'a>
+        ensures { step_in result.words.now ≡ kept_step self.entry.words.now step }
+    {
+        let words = self.words;
+        let (steps, _) = words[STEPS_AT..].as_chunks();
+        let words = steps.get(step).unwrap_or(&NO_STEP);
+        StepView { words }
+    }
+
     // The kind of a step, and 0 where no step can be.
     pub fn kind_of(self, step: usize) -> u64
         ensures { result ≡ (kept_step self.entry.words.now step).kind }
     {
-        if has_room(self.words, step) {
-            self.words[STEPS_AT + STEP_WORDS * step]
-        } else {
-            0
-        }
+        self.step(step).item().kind()
     }
 }

@@ -35,7 +35,9 @@ pub const COUNT_AT: usize = 2;
 
 pub const STEPS_AT: usize = 3;
 
-// Where the nevers begin in a step.
+// Where tests begin in a step or a never, and nevers in a step.
+pub const TESTS_AT: usize = 1;
+
 pub const NEVERS_AT: usize = 22;
 
 // Where a test's words stand, behind the field that is compared.

@@ -13,10 +13,12 @@ mod reading;
 #[cfg(test)]
 mod tests;
 mod tries;
+mod views;
 
 pub use comparing::{Comparison, number_at};
 pub use fields::{Field, Sign};
 pub use keeping::{Refusal, keep};
-pub use kept::{Kept, at_most};
+pub use kept::Kept;
 pub use laws::{fits_words, reads_back};
 pub use layout::PATTERN_WORDS;
+pub use views::at_most;

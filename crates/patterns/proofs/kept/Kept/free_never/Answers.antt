@@ -1,42 +1,35 @@
-use Rattle.std.proofs.Common.{◌+◌, ◌*◌, sym, ap, ◌∙◌}
+use Rattle.std.proofs.Common.{◌≡◌, ℕ, Bool, List, Some, None, refl, ◌∙◌, sym, ap, rules}
+use borrow.Author.Tests.{tests}
+use Rattle.std.proofs.lemmas.Iterator.{YieldsList-from_slice}
+use Rattle.std.proofs.lemmas.Iterator.Search.{find_from_yields_List}
+use Rattle.std.specs.List.{find}
+use Rattle.std.specs.Option.{option_map}
 use Rattle.timeline.specs.Lists.{none_of}
 use Rattle.patterns.specs.Patterns.{Never}
-use Rattle.patterns.specs.Kept.{kept_never, step_place}
-use Rattle.patterns.specs.Asked.{first_of, of_some}
-use Rattle.patterns.proofs.Runs.{first_stop, first_more, first_end}
-use Rattle.patterns.proofs.Holds.{nevers_all}
-use Rattle.patterns.proofs.Asking.{free_hits, tests_free, tests_there}
+use Rattle.patterns.specs.Kept.{kept_never, kept_step}
+use Rattle.patterns.specs.Asked.{first_of, of_some, free_kind}
+use Rattle.patterns.proofs.Chains.{find_first}
+use Rattle.patterns.proofs.Asking.{free_needed}
 use Rattle.patterns.proofs.kept.Kept.free_never.Goals as goal
-
-pub loop-i-init : goal.loop-i-init
-loop-i-init c =
-    ap (first_of (λ n. none_of n.tests))
-    (nevers_all c.args.self.words.now (step_place c.args.step + 22) c.nevers-many.result c.nevers-many.ensures.many)
-
-pub returns-then-self-never-eq0 : goal.returns-then-self-never-eq0
-returns-then-self-never-eq0 c =
-    let words = c.args.self.words.now in
-    let n = step_place c.args.step + 22 in
-    record {
-      value = ap (of_some (λ (v : Never). v.kind))
-          (sym (first_stop (λ v. none_of v.tests) (λ j. kept_never words (n + 1 + 22 * j)) c.loop-i.i c.nevers-many.result c.loop-i-test.true
-          (tests_free words (n + 1 + 22 * c.loop-i.i + 1) c.if-self-never-eq0.true)) ∙ c.loop-i.invariant);
-      needed = λ es e t. free_hits words n c.nevers-many.result c.loop-i.i c.nevers-many.ensures.many c.loop-i-test.true c.if-self-never-eq0.true es e t;
-    }
-
-pub loop-i-preserved : goal.loop-i-preserved
-loop-i-preserved c =
-    let words = c.args.self.words.now in
-    let n = step_place c.args.step + 22 in
-    first_more (λ v. none_of v.tests) (λ j. kept_never words (n + 1 + 22 * j)) c.loop-i.i c.nevers-many.result c.loop-i-test.true
-    (tests_there words (n + 1 + 22 * c.loop-i.i + 1) c.if-self-never-eq0.false) ∙ c.loop-i.invariant
 
 pub returns : goal.returns
 returns c =
-    let words = c.args.self.words.now in
-    let n = step_place c.args.step + 22 in
-    record {
-      value = ap (of_some (λ (v : Never). v.kind))
-          (sym (first_end (λ v. none_of v.tests) (λ j. kept_never words (n + 1 + 22 * j)) c.loop-i.i c.nevers-many.result c.loop-i-test.false) ∙ c.loop-i.invariant);
-      needed = tt;
-    }
+    let free : Never → Bool = λ n. none_of n.tests in
+    let read : List ℕ → Never = λ ws. kept_never ws 0 in
+    let test : List ℕ → Bool = λ ws. free (read ws) in
+    let nevers = (kept_step c.args.self.words.now c.args.step).never in
+    let found = find_from_yields_List test _ _ c.find.result c.find.ensures.ran (YieldsList-from_slice c.nevers.result.now cc) (λ x b q k. search (rules, tests)) in
+    let first = find_first free read test (λ ws. refl) c.nevers.result.now ∙ ap (first_of free) (c.nevers.ensures ∙ ap (λ s. s.never) c.step.ensures) in
+    let one : Some c.in_ok-free.free.now ≡ find test c.nevers.result.now = ap (option_map (λ r. r.now)) (sym c.in_ok-free.was) ∙ found in
+    let value : Some c.kind.result ≡ free_kind nevers = ap Some c.kind.ensures ∙ ap (λ o. of_some (λ (n : Never). n.kind) (option_map read o)) one ∙ ap (of_some (λ (n : Never). n.kind)) first in
+    record { value = value; needed = free_needed nevers c.kind.result (sym value) }
+
+pub returns-in_err-free-clause-value : goal.returns-in_err-free-clause-value
+returns-in_err-free-clause-value c =
+    let free : Never → Bool = λ n. none_of n.tests in
+    let read : List ℕ → Never = λ ws. kept_never ws 0 in
+    let test : List ℕ → Bool = λ ws. free (read ws) in
+    let found = find_from_yields_List test _ _ c.find.result c.find.ensures.ran (YieldsList-from_slice c.nevers.result.now cc) (λ x b q k. search (rules, tests)) in
+    let first = find_first free read test (λ ws. refl) c.nevers.result.now ∙ ap (first_of free) (c.nevers.ensures ∙ ap (λ s. s.never) c.step.ensures) in
+    let none : None ≡ find test c.nevers.result.now = ap (option_map (λ r. r.now)) (sym c.in_err-free.was) ∙ found in
+    c.from_residual.ensures ∙ ap (λ o. of_some (λ (n : Never). n.kind) (option_map read o)) none ∙ ap (of_some (λ (n : Never). n.kind)) first

@@ -1,34 +1,28 @@
-use Rattle.std.proofs.Common.{◌+◌}
-use Rattle.patterns.specs.Kept.{step_place}
-use Rattle.patterns.proofs.Asking.{none_kinds, one_kinds, two_kinds, kinds_none, kinds_one, kinds_two}
+use Rattle.std.proofs.Common.{◌∙◌, ap}
+use Rattle.patterns.specs.Kept.{kept_step}
+use Rattle.patterns.proofs.Asking.{no_kinds, one_kind, two_kinds, kinds_needed}
 use Rattle.patterns.proofs.kept.Kept.never_kinds.Goals as goal
 
-pub returns-then-many-eq0 : goal.returns-then-many-eq0
-returns-then-many-eq0 c =
+pub returns-in-empty : goal.returns-in-empty
+returns-in-empty c =
     let words = c.args.self.words.now in
-    let n = step_place c.args.step + 22 in
-    let many = c.nevers-many.result in
+    let kinds = no_kinds c.nevers.result.now (kept_step words c.args.step).never (c.nevers.ensures ∙ ap (λ s. s.never) c.step.ensures) c.in-empty.len_below in
+    record { value = kinds; needed = kinds_needed words c.args.step _ _ kinds }
+
+pub returns-in-len1 : goal.returns-in-len1
+returns-in-len1 c =
+    let words = c.args.self.words.now in
+    let kinds = one_kind c.nevers.result.now (kept_step words c.args.step).never (c.nevers.ensures ∙ ap (λ s. s.never) c.step.ensures) c.in-len1.len_at_least c.in-len1.len_below in
     record {
-      value = none_kinds words n many c.nevers-many.ensures.many c.if-many-eq0.true;
-      needed = λ es e _ _. kinds_none words n many c.nevers-many.ensures.many es e c.if-many-eq0.true;
+      value = (c.kind-kind.ensures ∙ kinds.0, c.kind-kind.ensures ∙ kinds.1);
+      needed = kinds_needed words c.args.step _ _ (c.kind-kind.ensures ∙ kinds.0, c.kind-kind.ensures ∙ kinds.1);
     }
 
-pub returns-then-many-eq1 : goal.returns-then-many-eq1
-returns-then-many-eq1 c =
+pub returns-in-len2-up : goal.returns-in-len2-up
+returns-in-len2-up c =
     let words = c.args.self.words.now in
-    let n = step_place c.args.step + 22 in
-    let many = c.nevers-many.result in
+    let kinds = two_kinds c.nevers.result.now (kept_step words c.args.step).never (c.nevers.ensures ∙ ap (λ s. s.never) c.step.ensures) c.in-len2-up.len_at_least in
     record {
-      value = one_kinds words n many c.nevers-many.ensures.many c.if-many-eq1.true;
-      needed = λ es e t _. kinds_one words n many c.nevers-many.ensures.many es e c.if-many-eq1.true t;
-    }
-
-pub returns : goal.returns
-returns c =
-    let words = c.args.self.words.now in
-    let n = step_place c.args.step + 22 in
-    let many = c.nevers-many.result in
-    record {
-      value = two_kinds words n many c.nevers-many.ensures.many c.if-many-eq0.false c.if-many-eq1.false;
-      needed = λ es e t u. kinds_two words n many c.nevers-many.ensures.many es e c.if-many-eq0.false c.if-many-eq1.false t u;
+      value = (c.kind.ensures ∙ kinds.0, c.kind-in-len2-up.ensures ∙ kinds.1);
+      needed = kinds_needed words c.args.step _ _ (c.kind.ensures ∙ kinds.0, c.kind-in-len2-up.ensures ∙ kinds.1);
     }
