@@ -1,8 +1,10 @@
 -- Words laid down place by place: what is left to lay gives the whole.
-use Rattle.std.proofs.Common.{◌≡◌, ℕ, zero, suc, ◌+◌, ◌-◌, ◌*◌, ◌<◌, ◌≤◌, List, [], ◌∷◌, ◌++◌, length, set, replicate, sym, refl, ap, ◌∙◌, add-zero, add_comm, mul-suc, mul-add, add-one, arith, length-append}
+use Rattle.std.proofs.Common.{◌≡◌, ℕ, zero, suc, ◌+◌, ◌-◌, ◌*◌, ◌<◌, ◌≤◌, List, [], ◌∷◌, ◌++◌, length, set, replicate, take, drop, drop-drop, append_assoc, sym, refl, ap, ◌∙◌, add-zero, add_comm, mul-suc, mul-add, add-one, arith, length-append}
 use lib.ListN.{length-replicate}
 use lib.Seq.{sets}
-use Rattle.std.proofs.lemmas.List.{replicate-append-replicate}
+use borrow.Rule.Slice.PartMut.{put_mid}
+use Rattle.std.proofs.lemmas.List.{replicate-append-replicate, length-take-le, length-drop}
+use Rattle.std.proofs.lemmas.List.Edits.{sets-eq}
 use Rattle.patterns.specs.Kept.{padded}
 
 -- one after the other
@@ -28,15 +30,16 @@ sets_all (x ∷ m) (w ∷ ws) l = sets_behind w m ws 0 ∙ ap (λ vs. w ∷ vs) 
 pub counted : (m after : List ℕ) (to n k : ℕ) (ws : List ℕ) → n ≡ k → after ≡ sets (set m to k) (to + 1) ws → after ≡ sets m to (n ∷ ws)
 counted m after to n k ws e h = h ∙ rw (e, add-one to) refl
 
--- zeros, one by one
-pub zeros_more : (m : List ℕ) (to many i : ℕ) → i < many → sets (set m (to + i) 0) (to + (i + 1)) (replicate (many - (i + 1)) 0) ≡ sets m (to + i) (replicate (many - i) 0)
-zeros_more m to many i l =
-    let e : many - i ≡ suc (many - (i + 1)) = omega arith in
-    let f : to + (i + 1) ≡ suc (to + i) = omega arith in
-    rw (e, f) refl
-
-pub zeros_end : (m : List ℕ) (to many i : ℕ) → many ≤ i → m ≡ sets m (to + i) (replicate (many - i) 0)
-zeros_end m to many i l = let e : many - i ≡ 0 = omega arith in rw e refl
+-- a part filled with zeros
+pub filled : (m ys : List ℕ) (a k n : ℕ) → n ≡ k → a + k ≤ length m → ys ≡ replicate (length (take k (drop a m))) 0 → put_mid a k m ys ≡ sets m a (replicate n 0)
+filled m ys a k n e l y =
+    let long : length (take k (drop a m)) ≡ k = length-take-le k (drop a m) (omega (arith, length-drop a m)) in
+    let zs = replicate k 0 in
+    let fits : a + length zs ≤ length m = omega (arith, length-replicate {A = ℕ} k 0) in
+    rw (y, long, e) (
+    sym (append_assoc (take a m) zs (drop k (drop a m)))
+    ∙ ap (λ ws. (take a m ++ zs) ++ ws) (drop-drop k a m ∙ ap (λ j. drop (a + j) m) (sym (length-replicate {A = ℕ} k 0)))
+    ∙ sym (sets-eq zs m a fits))
 
 module _ {A : Type 0} (w most : ℕ) (f : A → List ℕ) where
   pub padded_long : ((x : A) → length (f x) ≡ w) → (n : ℕ) (xs : List A) → length (padded w f n xs) ≡ w * n

@@ -66,9 +66,9 @@ Laid ok end most whole after None = ok ≡ false
 Laid ok end most whole after (Some p) = (ok ≡ true) × (p ≡ end) × (p ≤ most) × (after ≡ whole)
 
 -- the same of a whole pattern
-abbrev pub LaidAll : Bool → List ℕ → List ℕ → Bool → Type 0
-LaidAll ok whole after false = ok ≡ false
-LaidAll ok whole after true = (ok ≡ true) × (after ≡ whole)
+abbrev pub LaidAll : Bool → List ℕ → List ℕ → Option (Unit {0}) → Type 0
+LaidAll ok whole after None = ok ≡ false
+LaidAll ok whole after (Some done) = (ok ≡ true) × (after ≡ whole)
 
 -- what keeping a row in a lent slice answers, and what the slice holds after it
 abbrev pub Keeps : List ℕ → List ℕ → List ℕ → Result (Unit {0}) Refusal → Type 0

@@ -21,9 +21,7 @@ pub fn keep(row: &[u64], kept: &mut [u64]) -> Result<(), Refusal>
         return Err(Refusal::NotAsLong);
     }
     let mut words = [0; PATTERN_WORDS];
-    if !lay_pattern(&mut words, row) {
-        return Err(Refusal::NoPattern);
-    }
+    lay_pattern(&mut words, row).ok_or(Refusal::NoPattern)?;
     kept.copy_from_slice(&words);
     Ok(())
 }

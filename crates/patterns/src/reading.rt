@@ -11,18 +11,8 @@ ghost use Rattle.patterns.specs.Reading.{a_head, tests_at, tests_end, never_at, 
 use crate::comparing::{Comparison, number_at};
 use crate::layout::{
     BACK_AT, COUNT_AT, KINDS, LATE_AT, MOST_NEVERS, MOST_STEPS, MOST_TESTS, NEVER_WORDS, NEVERS_AT,
-    OTHER_AT, SIGN_AT, STEP_AT, STEP_WORDS, STEPS_AT, TEST_WORDS, TIMES, WITHIN_AT,
+    OTHER_AT, PATTERN_WORDS, SIGN_AT, STEP_AT, STEP_WORDS, STEPS_AT, TEST_WORDS, TIMES, WITHIN_AT,
 };
-
-// So many zeros.
-fn lay_zeros(words: &mut [u64], to: usize, many: usize)
-    requires { to + many ≤ length words.old }
-    ensures { words.new ≡ sets words.old to (replicate many 0) }
-{
-    for i in 0..many {
-        words[to + i] = 0;
-    }
-}
 
 // A test, in 5 words.
 fn lay_test(words: &mut [u64], to: usize, test: Comparison)
@@ -52,11 +42,8 @@ fn lay_tests(words: &mut [u64], to: usize, row: &[u64], pos: usize, before: u64)
         let test = Comparison::read(row, pos + 1 + TEST_WORDS * i, before)?;
         lay_test(words, to + 1 + TEST_WORDS * i, test);
     }
-    lay_zeros(
-        words,
-        to + 1 + TEST_WORDS * many,
-        TEST_WORDS * (MOST_TESTS - many),
-    );
+    let end = to + 1 + TEST_WORDS * MOST_TESTS;
+    words[to + 1 + TEST_WORDS * many..end].fill(0);
     Some(pos + 1 + TEST_WORDS * many)
 }
 
@@ -86,16 +73,10 @@ fn lay_nevers(words: &mut [u64], to: usize, row: &[u64], pos: usize, before: u64
     let many = count as usize;
     let mut next = pos + 1;
     for i in 0..many {
-        let Some(end) = lay_never(words, to + 1 + NEVER_WORDS * i, row, next, before) else {
-            return None;
-        };
-        next = end;
+        next = lay_never(words, to + 1 + NEVER_WORDS * i, row, next, before)?;
     }
-    lay_zeros(
-        words,
-        to + 1 + NEVER_WORDS * many,
-        NEVER_WORDS * (MOST_NEVERS - many),
-    );
+    let end = to + 1 + NEVER_WORDS * MOST_NEVERS;
+    words[to + 1 + NEVER_WORDS * many..end].fill(0);
     Some(next)
 }
 
@@ -109,9 +90,7 @@ fn lay_step(words: &mut [u64], to: usize, row: &[u64], pos: usize, before: u64) 
         return None;
     }
     words[to] = kind;
-    let Some(end) = lay_tests(words, to + 1, row, pos + 1, before) else {
-        return None;
-    };
+    let end = lay_tests(words, to + 1, row, pos + 1, before)?;
     lay_nevers(words, to + NEVERS_AT, row, end, before)
 }
 
@@ -122,8 +101,8 @@ fn head_may_be(within: u64, late: u64, count: u64) -> bool
     within < TIMES && late < TIMES && count >= 1 && count <= MOST_STEPS as u64
 }
 
-// The pattern of a row, in 405 words; false where it may not be.
-pub(crate) fn lay_pattern(words: &mut [u64], row: &[u64]) -> bool
+// The pattern of a row, in 405 words; None where it may not be.
+pub(crate) fn lay_pattern(words: &mut [u64], row: &[u64]) -> Option<()>
     requires { 405 ≤ length words.old }
     ensures { LaidAll (a_pattern (pattern_in row.now)) (sets words.old 0 (pattern_cells (pattern_in row.now))) words.new result }
 {
@@ -131,7 +110,7 @@ pub(crate) fn lay_pattern(words: &mut [u64], row: &[u64]) -> bool
     let late = number_at(row, LATE_AT);
     let count = number_at(row, COUNT_AT);
     if !head_may_be(within, late, count) {
-        return false;
+        return None;
     }
     words[WITHIN_AT] = within;
     words[LATE_AT] = late;
@@ -139,15 +118,8 @@ pub(crate) fn lay_pattern(words: &mut [u64], row: &[u64]) -> bool
     let many = count as usize;
     let mut next = STEPS_AT;
     for i in 0..many {
-        let Some(end) = lay_step(words, STEPS_AT + STEP_WORDS * i, row, next, i as u64) else {
-            return false;
-        };
-        next = end;
+        next = lay_step(words, STEPS_AT + STEP_WORDS * i, row, next, i as u64)?;
     }
-    lay_zeros(
-        words,
-        STEPS_AT + STEP_WORDS * many,
-        STEP_WORDS * (MOST_STEPS - many),
-    );
-    true
+    words[STEPS_AT + STEP_WORDS * many..PATTERN_WORDS].fill(0);
+    Some(())
 }

@@ -1,9 +1,9 @@
-use Rattle.std.proofs.Common.{◌≡◌, ◌+◌, ◌*◌, false, length, drop, sym, refl, ap, ◌∙◌, arith}
+use Rattle.std.proofs.Common.{◌≡◌, ◌-◌, ◌+◌, ◌*◌, false, length, drop, sym, refl, ap, ◌∙◌, arith, rules}
 use lib.Seq.{sets}
 use Rattle.patterns.specs.Limits.{a_test}
 use Rattle.patterns.specs.Numbers.{tests_in}
 use Rattle.patterns.specs.Kept.{kept_test, padded, test_cells, tests_cells}
-use Rattle.patterns.proofs.Laying.{lay_one, lay_rest, counted}
+use Rattle.patterns.proofs.Laying.{filled, lay_one, lay_rest, counted}
 use Rattle.patterns.proofs.Parts.{tests_more, no_tests, length_tests}
 use Rattle.patterns.proofs.May.{every_turn, every_fail, every_done, too_many, not_every, few_enough, length_test}
 use Rattle.patterns.proofs.reading.lay_tests.Goals as goal
@@ -39,5 +39,7 @@ returns c =
     let xs = tests_in k (drop (c.args.pos + 1) c.args.row.now) in
     let ends = no_tests k c.loop-i.i (drop (c.args.pos + 1 + 5 * c.loop-i.i) c.args.row.now) c.loop-i-test.false in
     let all = sym c.loop-i.invariant.0 ∙ every_done f _ ends in
-    let put = lay_rest 5 4 test_cells (c.args.to + 1) c.loop-i.i k _ _ _ _ xs (omega arith) ends c.lay_zeros.ensures c.loop-i.invariant.1 in
-    simp (sym c.number_at-count.ensures) (few_enough f 4 k xs (length_tests _ _) c.if-count.false all, refl, omega arith, counted c.args.words.now c.lay_zeros.new.words c.args.to (length xs) k (padded 5 test_cells 4 xs) (length_tests _ _) put)
+    let long : length c.loop-i.words ≡ length c.args.words.now = search rules in
+    let zeros = filled c.loop-i.words _ (c.args.to + 1 + 5 * k) (c.args.to + 1 + 20 - (c.args.to + 1 + 5 * k)) (5 * (4 - k)) (omega arith) (omega (arith, long)) (c.fill.ensures.after (λ y h. search rules)) in
+    let put = lay_rest 5 4 test_cells (c.args.to + 1) c.loop-i.i k _ _ _ _ xs (omega arith) ends zeros c.loop-i.invariant.1 in
+    simp (sym c.number_at-count.ensures) (few_enough f 4 k xs (length_tests _ _) c.if-count.false all, refl, omega arith, counted c.args.words.now _ c.args.to (length xs) k (padded 5 test_cells 4 xs) (length_tests _ _) put)
