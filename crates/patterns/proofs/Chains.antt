@@ -1,5 +1,5 @@
 -- What chains over the parts of a pattern answer, in the words of patterns.
-use Rattle.std.proofs.Common.{◌≡◌, ℕ, zero, suc, ◌+◌, Bool, true, false, cond, ◌||◌, eqb, List, [], ◌∷◌, length, Some, Option, refl, ap, ◌∙◌, add-one, arith}
+use Rattle.std.proofs.Common.{◌≡◌, ℕ, zero, suc, ◌+◌, Bool, true, false, cond, ◌||◌, eqb, List, [], ◌∷◌, length, get_or, Some, Option, refl, ap, ◌∙◌, add-one, arith}
 use Rattle.std.proofs.lemmas.Bool.{eq-eqb, ne_eqb}
 use Rattle.std.proofs.lemmas.Bool.Decides.{nat_tests}
 use Rattle.std.specs.Prelude.{slice_get, map}
@@ -7,6 +7,7 @@ use Rattle.std.specs.List.{list_all, list_any, find, range_with_len}
 use Rattle.std.specs.Option.{option_map, option_to_list}
 use Rattle.timeline.specs.declared.events.Event.{Event}
 use Rattle.timeline.specs.Lists.{pick, or, every, any, each, run, none_of}
+use Rattle.timeline.specs.Order.{nothing, nth}
 use Rattle.patterns.specs.Patterns.{Test, compared, field, other_side, holds, fits_step}
 use Rattle.patterns.specs.Codes.{field_number, field_numbered, sign_number, sign_numbered, test_of, comparison}
 use Rattle.patterns.specs.Kept.{kept_test}
@@ -35,6 +36,13 @@ module _ {A B : Type 0} (f : A → Bool) (g : B → A) (h : B → Bool) (same : 
       either : (b : Bool) (r : Option B) → option_map g (cond b (Some x) r) ≡ pick b (Some (g x)) (option_map g r)
       either true r = refl
       either false r = refl
+
+-- the nth event of a list
+pub nth_or : (es : List Event) (i : ℕ) → nth es i ≡ get_or es i nothing
+unfolding nth
+nth_or [] i = refl
+nth_or (e ∷ es) zero = refl
+nth_or (e ∷ es) (suc i) = nth_or es i
 
 -- a test means the same by what its field and its sign stand for
 field_same : (e : Event) (n : ℕ) → field e (field_number (field_numbered n)) ≡ field e n

@@ -7,6 +7,7 @@ use Rattle.std.proofs.lemmas.Bool.Decides.{nat_tests}
 use Rattle.std.specs.Option.{unwrap_or, option_map}
 use Rattle.std.specs.Simd.{first_chunks}
 use Rattle.timeline.specs.Lists.{each, run}
+use Rattle.patterns.proofs.Steps.{length_run}
 use Rattle.patterns.specs.Kept.{at_most, kept_test, kept_tests, kept_never, kept_nevers, step_in, step_place, kept_step}
 
 -- so many chunks, one after the other
@@ -181,11 +182,6 @@ behind_count n most k xs p r =
     ap (λ ys. take (at_most most k) (first_chunks n (length (take (length xs - 1) (drop 1 xs)) / n) ys)) all
     ∙ chunks_each n (length (take (length xs - 1) (drop 1 xs)) / n) (at_most most k) 0 1 xs few
 
-each_long : {A : Type 0} (f : ℕ → A) (i n : ℕ) → length (each f (run i n)) ≡ n
-unfolding each run
-each_long f i zero = refl
-each_long f i (suc n) = ap suc (each_long f (suc i) n)
-
 pub few_nevers : (c : List ℕ) (n : ℕ) → length (kept_nevers c n) ≤ 2
 unfolding kept_nevers
-few_nevers c n = rw (each_long (λ j. kept_never c (n + 1 + 22 * j)) 0 (at_most 2 (get_or c n 0))) (grind (arith, nat_tests))
+few_nevers c n = rw (length_run (λ j. kept_never c (n + 1 + 22 * j)) 0 (at_most 2 (get_or c n 0))) (grind (arith, nat_tests))

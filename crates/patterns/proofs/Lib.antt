@@ -1,8 +1,6 @@
-pub mod Runs
 pub mod Steps
 pub mod Back
 pub mod Words
-mod Holds
 mod Asking
 mod Laying
 mod Parts

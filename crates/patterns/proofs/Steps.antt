@@ -6,7 +6,7 @@ use Rattle.patterns.specs.Patterns.{Step}
 use Rattle.patterns.specs.Named.{step_names, kind_named}
 use Rattle.patterns.specs.Kept.{kept_step, kept_count, kept_pattern}
 
-length_run : {A : Type 0} (f : ℕ → A) (i n : ℕ) → length (each f (run i n)) ≡ n
+pub length_run : {A : Type 0} (f : ℕ → A) (i n : ℕ) → length (each f (run i n)) ≡ n
 unfolding each run
 length_run f i zero = refl
 length_run f i (suc n) = ap suc (length_run f (suc i) n)

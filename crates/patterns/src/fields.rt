@@ -41,14 +41,6 @@ impl From<Field> for u64 {
 }
 
 impl Field {
-    // 0 is who, 1 the value, any other the time.
-    pub fn numbered(number: u64) -> Field
-        ensures same { result ≡ field_numbered number }
-        ensures means { (e : Event) → field e (field_number result) ≡ field e number }
-    {
-        Field::from(number)
-    }
-
     pub fn of(self, e: Event) -> u64
         ensures { result ≡ field e (field_number self) }
     {
@@ -96,14 +88,6 @@ impl From<Sign> for u64 {
 }
 
 impl Sign {
-    // 0 is equal, 1 below, any other not below.
-    pub fn numbered(number: u64) -> Sign
-        ensures same { result ≡ sign_numbered number }
-        ensures means { (a b : ℕ) → compared (sign_number result) a b ≡ compared number a b }
-    {
-        Sign::from(number)
-    }
-
     pub fn holds(self, left: u64, right: u64) -> bool
         ensures { result ≡ compared (sign_number self) left right }
     {

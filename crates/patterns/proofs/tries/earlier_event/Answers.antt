@@ -1,6 +1,6 @@
 use Rattle.std.proofs.Common.{◌∙◌, sym, arith}
 use Rattle.timeline.specs.Order.{nothing}
-use Rattle.patterns.proofs.Holds.{nth_or}
+use Rattle.patterns.proofs.Chains.{nth_or}
 use Rattle.patterns.proofs.tries.earlier_event.Goals as goal
 
 pub returns : goal.returns
