@@ -1,11 +1,10 @@
 -- What a step's tests ask of who, and what its nevers forbid by their kinds, before they are tried: asked_who, asks_same, first_kind,
 -- other_kind, free_kind.
 -- Assumes nothing: these are definitions.
-use Rattle.std.specs.Prelude.{◌≡◌, ℕ, ◌+◌, ◌≤◌, Bool, false, ◌&&◌, List, [], ◌∷◌, Some, None, Option, ◌==◌}
+use Rattle.std.specs.Prelude.{ℕ, Bool, false, ◌&&◌, List, [], ◌∷◌, Some, None, Option, ◌==◌}
 use Rattle.timeline.specs.declared.events.Event.{Event}
 use Rattle.timeline.specs.Lists.{pick, none_of}
-use Rattle.patterns.specs.Patterns.{Test, Never, other_side, fits_step}
-use Rattle.patterns.specs.Kept.{kept_test, kept_step}
+use Rattle.patterns.specs.Patterns.{Test, Never, other_side}
 
 -- the first element that passes a test
 unfoldable pub first_of : {A : Type 0} → (A → Bool) → List A → Option A
@@ -39,12 +38,6 @@ with_who_of k (Some t) = is_step k t.step && t.other == 0
 -- the first test that says to what who is equal compares with who of the event of this step
 abbrev pub asks_same : ℕ → List Test → Bool
 asks_same k ts = with_who_of k (first_of of_who ts)
-
--- a test stands at this place of the words, and an event fits the step only if its who is what that test compares with
-pub record AsksWho (c : List ℕ) (s at : ℕ) : Type 0 where
-  pub inside : at + 5 ≤ 405
-  pub needed : (es : List Event) (e : Event) → (e.who == other_side es (kept_test c at).step (kept_test c at).other) ≡ false
-      → fits_step es e (kept_step c s).kind (kept_step c s).tests ≡ false
 
 -- NEVERS
 
