@@ -1,4 +1,4 @@
-// What a program is called with: a pattern, as a file of numbers, a file in which it is typed or the text itself; and what stands behind it.
+// What a program is called with: a pattern (a file of numbers, a file in which it is typed, or the text itself), and what stands behind it.
 use crate::complaining::complaint;
 use crate::failing::{Failed, read_file, read_pattern};
 use std::env;
