@@ -24,9 +24,6 @@ use Rattle.listener.specs.Machine.{memory_long, no_places, memory_of, cells_of, 
 use Rattle.listener.specs.Entry.{ActTold, Did}
 use Rattle.listener.proofs.Words.{cells_stay, ring_there}
 
-pub did : (st : Stepped) (a : Act) (t : Result Told Refusal) (m₁ out out₁ : List ℕ) → m₁ ≡ st.memory → st.act ≡ a → ActTold a t out out₁ → Did st t m₁ out out₁
-did st a t m₁ out out₁ e q h = record { memory = e; told = subst (λ (x : Act). ActTold x t out out₁) (sym q) h }
-
 -- HEARING
 pub greater : (a b : ℕ) → max a b ≡ pick (ltb a b) b a
 greater a b = grind (arith, by_tests)

@@ -58,6 +58,9 @@ one_misfits : (a b k r o : ℕ) → (a ≡ b → k ≤ 3 → r ≤ 1024 → o < 
 unfolding fits
 one_misfits a b k r o h = grind (arith, by_tests)
 
+untouched : (out first₁ : List ℕ) → first₁ ≡ take 6 out → first₁ ++ drop 6 out ≡ out
+untouched out first₁ e = ap (λ (x : List ℕ). x ++ drop 6 out) e ∙ take-append-drop 6 out
+
 -- what was answered with the first six of the lent row is answered with the whole
 widened :
     (a : Act) (t : Result Told Refusal) (out first₁ : List ℕ) → 6 ≤ length out → ActTold a t (take 6 out) first₁ → ActTold a t out (first₁ ++ drop 6 out)
@@ -70,10 +73,10 @@ widened (tells r) t out first₁ long d =
       ap (λ (x : List ℕ). x ++ drop 6 out) d.2 ∙ append_assoc r (drop (length r) (take 6 out)) (drop 6 out)
           ∙ ap (λ (x : List ℕ). r ++ x) (sym joined ∙ ap (drop (length r)) (take-append-drop 6 out)),
     )
-widened waits t out first₁ long d = (d.0, ap (λ (x : List ℕ). x ++ drop 6 out) d.1 ∙ take-append-drop 6 out)
-widened late t out first₁ long d = (d.0, ap (λ (x : List ℕ). x ++ drop 6 out) d.1 ∙ take-append-drop 6 out)
-widened over t out first₁ long d = (d.0, ap (λ (x : List ℕ). x ++ drop 6 out) d.1 ∙ take-append-drop 6 out)
-widened (refused k) t out first₁ long d = (d.0, ap (λ (x : List ℕ). x ++ drop 6 out) d.1 ∙ take-append-drop 6 out)
+widened waits t out first₁ long d = (d.0, untouched out first₁ d.1)
+widened late t out first₁ long d = (d.0, untouched out first₁ d.1)
+widened over t out first₁ long d = (d.0, untouched out first₁ d.1)
+widened (refused k) t out first₁ long d = (d.0, untouched out first₁ d.1)
 
 module _ (m row out : List ℕ) (k : ℕ) where
   pub steps :

@@ -1,8 +1,7 @@
 -- What the listener is told, case by case: each check hands on its value, or it is refused and nothing is changed.
-use Rattle.std.proofs.Common.{◌≡◌, ℕ, ◌+◌, ◌<◌, ◌≤◌, true, false, ltb, List, length, get_or, take, drop, Some, None, Ok, Err, Option, Result, sym, refl, ap, ◌∙◌, subst, ap₂, arith, rules}
+use Rattle.std.proofs.Common.{◌≡◌, ℕ, ◌+◌, ◌≤◌, true, false, List, length, get_or, take, drop, Some, None, Ok, Err, Option, Result, sym, refl, ap, ◌∙◌, subst, ap₂, arith, rules}
 use Rattle.std.proofs.lemmas.List.{same_lists, places, length-take-le, length-drop}
 use Rattle.std.proofs.lemmas.Slice.{between-put_mid, drop-put_mid}
-use Rattle.std.proofs.lemmas.Bool.{and_parts, ltb-true}
 use borrow.Rule.Slice.PartMut.{put_mid}
 use Rattle.timeline.specs.declared.events.Event.{Event}
 use Rattle.timeline.specs.Lists.{pick}
@@ -96,9 +95,6 @@ module _ (m out : List ℕ) (t k w v : ℕ) where
       let e₁ : Event = event_of h.count t k w v in
       let step : turned h (cells_of m) (ring_of m) e₁ x ≡ came m t k w v = ap (turned h (cells_of m) (ring_of m) e₁) q ∙ (sym (rw ok) ∙ by_head h e) in
       moved (turned h (cells_of m) (ring_of m) e₁ x) (came m t k w v) a m₁ out out₁ step d
-
-pub time_fits : (e : Event) → an_event e ≡ true → e.time < 4611686018427387904
-time_fits e ok = ltb-true e.time 4611686018427387904 (and_parts (ltb e.time 4611686018427387904) (ltb e.kind 65536) (and_parts _ _ ok).0).0
 
 module _ (m out : List ℕ) where
   pub ended_out : None ≡ head_at Waiting m → Did (ended m) (Err OutOfTurn) m out out

@@ -1,8 +1,6 @@
 -- The memory taken apart and put together: what is written is what is read.
-use Rattle.std.proofs.Common.{◌≡◌, ℕ, ◌+◌, true, ◌&&◌, eqb, List, [], ◌∷◌, ◌++◌, length, get_or, take, drop, Some, None, sym, refl, ap, ◌∙◌, ap₂, arith}
+use Rattle.std.proofs.Common.{◌≡◌, ℕ, ◌+◌, true, ◌&&◌, eqb, List, [], ◌∷◌, ◌++◌, length, get_or, take, drop, Some, None, sym, refl, ap, ◌∙◌, arith}
 use Rattle.std.proofs.lemmas.List.{append-nil, drop-append-le, take-append-le, drop-take, length-take, length-take-le, drop_all, take_all, length-drop, drop_at, take_at, length-append, take-append-drop, append_assoc, drop-drop}
-use Rattle.std.proofs.lemmas.List.Edits.{sets-eq}
-use lib.Seq.{sets}
 use borrow.Rule.Slice.PartMut.{put_mid}
 use Rattle.std.proofs.lemmas.Bool.Decides.{nat_tests}
 use Rattle.timeline.specs.Lists.{pick}
@@ -68,25 +66,8 @@ module _ (ph : Phase) (h : Head) (cells ring : List ℕ) where
       let same : eqb (phase_number ph) (phase_number ph) ≡ true = grind (arith, nat_tests) in
       ap (λ (g : Head). pick (eqb (phase_number ph) (phase_number ph) && a_head g) (Some g) None) (head_back e) ∙ rw (same, ok)
 
-places_whole : (xs : List ℕ) → length xs ≡ 6 → places xs ≡ six xs
-places_whole [] e = absurd (omega arith)
-places_whole (a ∷ []) e = absurd (omega arith)
-places_whole (a ∷ b ∷ []) e = absurd (omega arith)
-places_whole (a ∷ b ∷ c ∷ []) e = absurd (omega arith)
-places_whole (a ∷ b ∷ c ∷ d ∷ []) e = absurd (omega arith)
-places_whole (a ∷ b ∷ c ∷ d ∷ e₁ ∷ []) e = absurd (omega arith)
-places_whole (a ∷ b ∷ c ∷ d ∷ e₁ ∷ f ∷ xs) e = refl
-
 pub behind_head : (m : List ℕ) → drop 14 m ≡ cells_of m ++ ring_of m
 behind_head m = sym (ap (λ (r : List ℕ). take 405 (drop 14 m) ++ r) (sym (drop-drop 405 14 m)) ∙ take-append-drop 405 (drop 14 m))
-
--- the state written word by word
-pub stored :
-    (m : List ℕ) (n : ℕ) (h : Head) → length m ≡ memory_long → length h.at ≡ 6
-    → sets m 0 (n ∷ h.count ∷ h.latest ∷ h.start ∷ h.len ∷ h.known ∷ h.upto ∷ h.stale ∷ places h.at) ≡ (n ∷ head_words h) ++ (cells_of m ++ ring_of m)
-stored m n h long six-long =
-    sets-eq (n ∷ h.count ∷ h.latest ∷ h.start ∷ h.len ∷ h.known ∷ h.upto ∷ h.stale ∷ places h.at) m 0 (omega arith)
-    ∙ ap₂ (λ (xs r : List ℕ). (n ∷ h.count ∷ h.latest ∷ h.start ∷ h.len ∷ h.known ∷ h.upto ∷ h.stale ∷ xs) ++ r) (places_whole h.at six-long) (behind_head m)
 
 -- the ring lent, and given back
 pub ring_lent : (m : List ℕ) → length m ≡ memory_long → take ring_long (drop 419 m) ≡ ring_of m

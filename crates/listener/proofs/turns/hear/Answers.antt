@@ -1,4 +1,4 @@
-use Rattle.std.proofs.Common.{◌≡◌, ℕ, ◌+◌, ◌-◌, Bool, List, ap, ◌∙◌, ap₂, zero-add, arith}
+use Rattle.std.proofs.Common.{◌≡◌, ℕ, ◌+◌, ◌-◌, Bool, max, List, ap, ◌∙◌, ap₂, zero-add, arith}
 use mir.Val.{bool_byte}
 use Rattle.timeline.specs.declared.events.Event.{Event}
 use Rattle.timeline.specs.Lists.{pick}
@@ -11,18 +11,27 @@ use Rattle.listener.specs.Machine.{cells_of, ring_of, below_run, latest_with, st
 use Rattle.listener.proofs.Doing.{greater, one_if, hears_late, hears_full, hears_counts}
 use Rattle.listener.proofs.turns.hear.Goals as goal
 
--- how many are stale, from what the calls answered
-stale_from :
-    (p : Pattern) (h : Head) (es : List Event) (e : Event) (latest late mark within oldest run : ℕ) → latest ≡ latest_with h e → late ≡ p.late
-    → mark ≡ latest - late → within ≡ p.within → oldest ≡ mark - within → run ≡ 0 + below_run oldest es → run ≡ stale_with p h es e
-stale_from p h es e latest late mark within oldest run a b c d f g =
-    g ∙ zero-add (below_run oldest es)
-    ∙ ap (λ (x : ℕ). below_run x es) (f ∙ ap₂ (λ (x y : ℕ). x - y) (c ∙ ap₂ (λ (x y : ℕ). x - y) a b) d)
-
-room_from :
-    (p : Pattern) (h : Head) (es : List Event) (e : Event) (run stays : ℕ) (b : Bool) → run ≡ stale_with p h es e → b ≡ named p e
-    → stays ≡ h.len - run + bool_byte b → stays ≡ h.len - stale_with p h es e + pick (named p e) 1 0
-room_from p h es e run stays b a d f = f ∙ ap (λ (x : ℕ). h.len - run + x) (one_if b) ∙ ap₂ (λ (x : ℕ) (y : Bool). h.len - x + pick y 1 0) a d
+-- what the calls answered, in the model's words: the latest time, how many are stale, whether the event is named, and the room that it takes
+calls_are :
+    (m : List ℕ) (h : Head) (e : Event) {words : List ℕ} {late latest mark within oldest run one : ℕ} {b : Bool} → words ≡ cells_of m → late ≡ (kept_pattern words).late
+    → latest ≡ max h.latest e.time → mark ≡ latest - late → within ≡ (kept_pattern words).within → oldest ≡ mark - within
+    → run ≡ 0 + below_run oldest (events (ring_of m) h.start h.len) → b ≡ named (kept_pattern words) e → one ≡ bool_byte b
+    → (latest ≡ latest_with h e) × (run ≡ stale_with (kept_pattern (cells_of m)) h (events (ring_of m) h.start h.len) e) × (b ≡ named (kept_pattern (cells_of m)) e)
+    × (h.len - run + one ≡ h.len - stale_with (kept_pattern (cells_of m)) h (events (ring_of m) h.start h.len) e + pick (named (kept_pattern (cells_of m)) e) 1 0)
+calls_are m h e {words} {late} {latest} {mark} {within} {oldest} {run} {one} {b} is is-late is-latest is-mark is-within is-oldest is-run is-named is-one =
+    let p : Pattern = kept_pattern (cells_of m) in
+    let es : List Event = events (ring_of m) h.start h.len in
+    let late₁ : late ≡ p.late = is-late ∙ ap (λ (x : List ℕ). (kept_pattern x).late) is in
+    let within₁ : within ≡ p.within = is-within ∙ ap (λ (x : List ℕ). (kept_pattern x).within) is in
+    let latest₁ : latest ≡ latest_with h e = is-latest ∙ greater h.latest e.time in
+    let named₁ : b ≡ named p e = is-named ∙ ap (λ (x : List ℕ). named (kept_pattern x) e) is in
+    let oldest₁ = is-oldest ∙ ap₂ (λ (x y : ℕ). x - y) (is-mark ∙ ap₂ (λ (x y : ℕ). x - y) latest₁ late₁) within₁ in
+    let stale : run ≡ stale_with p h es e = is-run ∙ zero-add (below_run oldest es) ∙ ap (λ (x : ℕ). below_run x es) oldest₁ in (
+      latest₁,
+      stale,
+      named₁,
+      ap (λ (x : ℕ). h.len - run + x) (is-one ∙ one_if b) ∙ ap₂ (λ (x : ℕ) (y : Bool). h.len - x + pick y 1 0) stale named₁,
+    )
 
 counts_from : (p : Pattern) (h : Head) (es : List Event) (e : Event) (latest run : ℕ) (b : Bool) → latest ≡ latest_with h e → run ≡ stale_with p h es e → b ≡ named p e
     → Counts (record { count = h.count + 1; latest = latest; start = h.start; len = h.len; known = h.known; upto = h.upto; stale = run; at = h.at }) b ≡ Counts (counting p h es e) (named p e)
@@ -44,16 +53,11 @@ returns-then-head-stale-gt-ROOM-clause-value c =
     let e = c.args.e in
     let p = kept_pattern (cells_of m) in
     let es = events (ring_of m) h.start h.len in
-    let words = c.pattern_in-pattern.ensures in
-    let is-late = c.late-late.ensures ∙ ap (λ (w : List ℕ). (kept_pattern w).late) words in
-    let is_Within = c.within.ensures ∙ ap (λ (w : List ℕ). (kept_pattern w).within) words in
-    let is-named = c.is_named-named.ensures ∙ ap (λ (w : List ℕ). named (kept_pattern w) e) words in
-    let latest = c.max-latest.ensures ∙ greater h.latest e.time in
-    let stale = stale_from p h es e c.max-latest.result c.late-late.result c.saturating_sub-2.result c.within.result c.saturating_sub-oldest.result c.run_below-stale.result
-    latest is-late c.saturating_sub-2.ensures is_Within c.saturating_sub-oldest.ensures c.run_below-stale.ensures.value in
-    let room = room_from p h es e c.run_below-stale.result (h.len - c.run_below-stale.result + c.from.result) c.is_named-named.result stale is-named
-    (ap (λ (x : ℕ). h.len - c.run_below-stale.result + x) c.from.ensures) in
-    hears_full p h es e (omega (arith, is-late, c.saturating_sub.ensures, c.if-e-saturating_sub.false)) (omega (arith, room, c.if-head-stale-gt-ROOM.true))
+    let is-late = c.late-late.ensures ∙ ap (λ (w : List ℕ). (kept_pattern w).late) c.pattern_in-pattern.ensures in
+    let are =
+    calls_are m h e c.pattern_in-pattern.ensures c.late-late.ensures c.max-latest.ensures c.saturating_sub-2.ensures c.within.ensures c.saturating_sub-oldest.ensures
+    c.run_below-stale.ensures.value c.is_named-named.ensures c.from.ensures in
+    hears_full p h es e (omega (arith, is-late, c.saturating_sub.ensures, c.if-e-saturating_sub.false)) (omega (arith, are.3, c.if-head-stale-gt-ROOM.true))
 
 pub returns-clause-value : goal.returns-clause-value
 returns-clause-value c =
@@ -62,14 +66,9 @@ returns-clause-value c =
     let e = c.args.e in
     let p = kept_pattern (cells_of m) in
     let es = events (ring_of m) h.start h.len in
-    let words = c.pattern_in-pattern.ensures in
-    let is-late = c.late-late.ensures ∙ ap (λ (w : List ℕ). (kept_pattern w).late) words in
-    let is_Within = c.within.ensures ∙ ap (λ (w : List ℕ). (kept_pattern w).within) words in
-    let is-named = c.is_named-named.ensures ∙ ap (λ (w : List ℕ). named (kept_pattern w) e) words in
-    let latest = c.max-latest.ensures ∙ greater h.latest e.time in
-    let stale = stale_from p h es e c.max-latest.result c.late-late.result c.saturating_sub-2.result c.within.result c.saturating_sub-oldest.result c.run_below-stale.result
-    latest is-late c.saturating_sub-2.ensures is_Within c.saturating_sub-oldest.ensures c.run_below-stale.ensures.value in
-    let room = room_from p h es e c.run_below-stale.result (h.len - c.run_below-stale.result + c.from.result) c.is_named-named.result stale is-named
-    (ap (λ (x : ℕ). h.len - c.run_below-stale.result + x) c.from.ensures) in
-    counts_from p h es e c.max-latest.result c.run_below-stale.result c.is_named-named.result latest stale is-named
-    ∙ hears_counts p h es e (omega (arith, is-late, c.saturating_sub.ensures, c.if-e-saturating_sub.false)) (omega (arith, room, c.if-head-stale-gt-ROOM.false))
+    let is-late = c.late-late.ensures ∙ ap (λ (w : List ℕ). (kept_pattern w).late) c.pattern_in-pattern.ensures in
+    let are =
+    calls_are m h e c.pattern_in-pattern.ensures c.late-late.ensures c.max-latest.ensures c.saturating_sub-2.ensures c.within.ensures c.saturating_sub-oldest.ensures
+    c.run_below-stale.ensures.value c.is_named-named.ensures c.from.ensures in
+    counts_from p h es e c.max-latest.result c.run_below-stale.result c.is_named-named.result are.0 are.1 are.2
+    ∙ hears_counts p h es e (omega (arith, is-late, c.saturating_sub.ensures, c.if-e-saturating_sub.false)) (omega (arith, are.3, c.if-head-stale-gt-ROOM.false))
