@@ -66,7 +66,8 @@ impl Mirror {
         Ok(Expected::Waits)
     }
 
-    // Puts an event behind all that aren't behind it, looked for from the end.
+    // Puts an event behind all that aren't behind it, looked for from the end. Those behind it move on by one position: the events are words
+    // of a ring, which no slice of events holds.
     fn hold(&mut self, e: Event) {
         let len = self.get(LEN);
         let before = (0..len)
