@@ -39,7 +39,7 @@ fn run(rt: &HostRuntime, task: Task) -> Result<(), Failed> {
             Ok(()) => (),
             Err(Stop::Memory(_) | Stop::Finder) => return Err(Failed::Memory),
             Err(Stop::Differs(difference)) => {
-                difference.print(rt, &case)?;
+                println!(rt; "{case}\n{difference}")?;
                 return Err(Failed::Said);
             }
         }

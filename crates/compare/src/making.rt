@@ -1,7 +1,9 @@
 // A case made of a seed and its number: a pattern's row of numbers, and events.
 use crate::shapes::{Field, KINDS, NUMBERS, SPANS};
 use crate::world::World;
+use files::Spaced;
 use std::alloc::{AllocError, Global};
+use std::fmt;
 use timeline::Event;
 use trials::Random;
 
@@ -29,6 +31,28 @@ pub struct Case {
     pub events: Vec<Event>,
     // Where the ring begins.
     pub start: u64,
+}
+
+// How a case is seen again: alone, and by its pattern and its events.
+impl fmt::Display for Case {
+    fn fmt<W: fmt::Write>(&self, f: &mut fmt::Formatter<W>) -> fmt::Result {
+        write!(
+            f,
+            "case {} differs (alone: compare {} 1 {})",
+            self.number, self.seed, self.number
+        )?;
+        write!(f, "\npattern: {}", Spaced(&self.row))?;
+        write!(
+            f,
+            "\nring begins at {}; events, with their numbers:",
+            self.start
+        )?;
+        for e in self.events.iter() {
+            let numbers = [e.time, e.kind, e.who, e.value];
+            write!(f, "\n{}: {}", e.heard, Spaced(&numbers))?;
+        }
+        Ok(())
+    }
 }
 
 // Fields and signs have the numbers from 0 on.

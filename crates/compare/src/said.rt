@@ -1,5 +1,6 @@
 // What is said of one thing that the listener is told: rows, and how it ends.
 use crate::shapes::MOST_STEPS;
+use files::Spaced;
 use listener::Refusal;
 use std::alloc::Global;
 use std::fmt;
@@ -57,6 +58,16 @@ impl fmt::Display for End {
 pub struct Said {
     pub rows: Vec<Row>,
     pub end: End,
+}
+
+// A line for each row, and one for what comes behind them.
+impl fmt::Display for Said {
+    fn fmt<W: fmt::Write>(&self, f: &mut fmt::Formatter<W>) -> fmt::Result {
+        for row in self.rows.iter() {
+            write!(f, "\n  row of {}: {}", row.many, Spaced(&row.numbers))?;
+        }
+        write!(f, "\n  {}", self.end)
+    }
 }
 
 impl Said {

@@ -12,37 +12,29 @@ mod tally;
 mod trying;
 
 use calls::{Maker, Trial};
-use files::{Failed, ending, line};
+use files::{Failed, Spaced, ending};
 use harming::Pair;
-use judging::Wrong;
 use layout::WITHIN;
 use listener::MEMORY_LONG;
+use std::fmt;
 use std::process::ExitCode;
 use tally::Tally;
 use trials::numbers;
 use trying::{Stop, tried};
 
-// Which call of which seed it is, what it is made with, and how the memory begins; the rest of the memory follows from the seed.
+// What a call is made with, and how the memory begins then; the rest of the memory follows from the seed.
 #[derive(Drop)]
 struct Attempt {
-    seed: u64,
-    number: u64,
     trial: Trial,
     front: Vec<u64>,
 }
 
-impl Attempt {
-    fn print(&self, rt: &HostRuntime, wrong: Wrong) -> Result<(), Failed> {
-        let heap = rt.alloc();
-        let front = line(heap, &self.front)?;
-        let row = line(heap, &self.trial.row)?;
-        let out = line(heap, &self.trial.out)?;
-        println!(rt; "seed {}, call {}: {wrong}", self.seed, self.number)?;
-        println!(rt; "the memory began: {front}")?;
-        println!(rt; "kind: {}", self.trial.kind)?;
-        println!(rt; "row: {row}")?;
-        println!(rt; "lent row: {out}")?;
-        Ok(())
+impl fmt::Display for Attempt {
+    fn fmt<W: fmt::Write>(&self, f: &mut fmt::Formatter<W>) -> fmt::Result {
+        write!(f, "the memory began: {}", Spaced(&self.front))?;
+        write!(f, "\nkind: {}", self.trial.kind)?;
+        write!(f, "\nrow: {}", Spaced(&self.trial.row))?;
+        write!(f, "\nlent row: {}", Spaced(&self.trial.out))
     }
 }
 
@@ -54,8 +46,6 @@ fn run(rt: &HostRuntime, seed: u64, count: u64) -> Result<(), Failed> {
     for number in 0..count {
         pair.prepare(&mut maker.random);
         let attempt = Attempt {
-            seed,
-            number,
             trial: maker.trial(&pair.mirror)?,
             front: pair
                 .mirror
@@ -70,7 +60,7 @@ fn run(rt: &HostRuntime, seed: u64, count: u64) -> Result<(), Failed> {
             Ok(told) => tally.count_answer(told),
             Err(Stop::Memory(e)) => return Err(Failed::from(e)),
             Err(Stop::Wrong(wrong)) => {
-                attempt.print(rt, wrong)?;
+                println!(rt; "seed {seed}, call {number}: {wrong}\n{attempt}")?;
                 return Err(Failed::Said);
             }
         }
