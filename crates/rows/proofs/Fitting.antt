@@ -1,11 +1,10 @@
 -- What a step asks of a position, in the order in which it is asked.
 use Rattle.std.proofs.Common.{◌≡◌, ℕ, ◌+◌, ◌-◌, ◌<◌, true, false, not, ◌&&◌, eqb, leb, List, length, get_or, take, drop, sym, refl, ap, ◌∙◌, add-one, arith, length-take, length-drop, get_or-take, get_or-drop}
 use Rattle.timeline.specs.declared.events.Event.{Event}
-use Rattle.timeline.specs.Lists.{pick}
+use Rattle.timeline.specs.Lists.{pick, each}
 use Rattle.timeline.specs.Order.{nothing, nth}
 use Rattle.timeline.proofs.Order.{nth_is}
 use Rattle.patterns.specs.Patterns.{Step, fits_step}
-use Rattle.rows.specs.Held.{Standing}
 use Rattle.rows.specs.Finding.{fits}
 use Rattle.rows.proofs.Positions.{nth_each}
 use Rattle.rows.proofs.Passing.{none_of_is}
@@ -22,12 +21,12 @@ place_before at m k l =
     let q : 1 + (m - 1) ≡ m = omega arith in
     ap (λ j. get_or (take m (drop 1 at)) (j - 1) 0) n ∙ get_or-take m (drop 1 at) (m - 1) 0 (omega arith) ∙ get_or-drop 1 at (m - 1) 0 ∙ ap (λ j. get_or at j 0) q
 
-module _ (h : List Event) (w : ℕ) (s : Step) (places : List ℕ) (earlier : List Event) (p : ℕ) (e : Event) (st : Standing h places earlier) (is : e ≡ nth h p) where
+module _ (h : List Event) (w : ℕ) (s : Step) (places : List ℕ) (earlier : List Event) (p : ℕ) (e : Event) (st : earlier ≡ each (nth h) places) (is : e ≡ nth h p) where
   fits_is : fits h w s places p
       ≡ (fits_step earlier e s.kind s.tests
       && pick (eqb (length places) 0) true (leb e.time ((nth h (get_or places 0 0)).time + w) && not (broken h earlier s (last_place places + 1) p)))
   unfolding fits
-  fits_is = rw (none_of_is places, st.are, is, add-one (last_place places)) refl
+  fits_is = rw (none_of_is places, st, is, add-one (last_place places)) refl
 
   -- it does not fit by itself
   pub fits_not : fits_step earlier e s.kind s.tests ≡ false → false ≡ fits h w s places p
@@ -40,7 +39,7 @@ module _ (h : List Event) (w : ℕ) (s : Step) (places : List ℕ) (earlier : Li
 
     module _ (b : eqb (length places) 0 ≡ false) (some : 0 < length places) where
       first_time : (get_or earlier 0 nothing).time ≡ (nth h (get_or places 0 0)).time
-      first_time = ap (λ x. x.time) (sym (nth_is earlier 0) ∙ ap (λ es. nth es 0) st.are ∙ nth_each h places 0 some)
+      first_time = ap (λ x. x.time) (sym (nth_is earlier 0) ∙ ap (λ es. nth es 0) st ∙ nth_each h places 0 some)
 
       -- it is out of the window
       pub fits_late : leb e.time ((get_or earlier 0 nothing).time + w) ≡ false → false ≡ fits h w s places p

@@ -1,12 +1,12 @@
 -- What a level asks for, read off the array of positions.
-use Rattle.std.proofs.Common.{◌≡◌, ℕ, zero, suc, ◌+◌, ◌-◌, ◌<◌, ◌≤◌, Bool, true, false, ◌&&◌, eqb, List, [], ◌∷◌, length, get_or, take, drop, sym, refl, ap, ◌∙◌, ap₂, add-one, arith, length-drop, length-take, get_or-drop, get_or-take}
+use Rattle.std.proofs.Common.{◌≡◌, ℕ, zero, suc, ◌+◌, ◌-◌, ◌<◌, ◌≤◌, Bool, true, false, ◌&&◌, eqb, List, [], ◌∷◌, length, get_or, take, drop, sym, refl, ap, ◌∙◌, ap₂, add-one, arith, length-drop, get_or-drop}
 use Rattle.std.proofs.lemmas.Bool.{eq-eqb, ne_eqb}
 use Rattle.timeline.specs.declared.events.Event.{Event}
 use Rattle.timeline.specs.Lists.{pick, each}
 use Rattle.timeline.specs.Order.{nothing, nth}
 use Rattle.patterns.specs.Kept.{kept_step, kept_count, kept_pattern}
 use Rattle.patterns.proofs.Steps.{steps_long}
-use Rattle.rows.specs.Held.{Standing, Along}
+use Rattle.rows.specs.Held.{Along}
 use Rattle.rows.specs.Search.{chosen, forward}
 use Rattle.rows.specs.Finding.{fits, row_ok, row_lo, row_hi}
 use Rattle.rows.proofs.Picks.{and_false}
@@ -55,21 +55,14 @@ take_each h (x ∷ xs) [] (suc m) l k f = absurd (omega arith)
 take_each h (x ∷ xs) (e ∷ es) (suc m) l k f = ap₂ (λ y ys. y ∷ ys) (f 0 (omega arith)) (take_each h xs es m (omega arith) (omega arith) (λ j q. f (suc j) (omega arith)))
 
 pub along_stands : (h : List Event) (at : List ℕ) (row : List Event) (d m : ℕ) → length at ≡ 6 → length row ≡ 6 → Along h at row d → m + 1 ≤ d → d ≤ 6
-    → Standing h (take m (drop 1 at)) (take m (drop 1 row))
+    → take m (drop 1 row) ≡ each (nth h) (take m (drop 1 at))
 along_stands h at row d m la lr a l k =
-    record {
-      inside = λ j q.
-          let b : j < m = omega (arith, length-take m (drop 1 at)) in
-          let e : get_or (take m (drop 1 at)) j 0 ≡ get_or at (1 + j) 0 = get_or-take m (drop 1 at) j 0 b ∙ get_or-drop 1 at j 0 in
-          rw e (a.inside (1 + j) (omega arith));
-      are =
-          take_each h (drop 1 at) (drop 1 row) m (omega (arith, length-drop 1 at)) (omega (arith, length-drop 1 row))
-          (λ j q. get_or-drop 1 row j nothing ∙ a.are (1 + j) (omega arith) ∙ ap (nth h) (sym (get_or-drop 1 at j 0)));
-    }
+    take_each h (drop 1 at) (drop 1 row) m (omega (arith, length-drop 1 at)) (omega (arith, length-drop 1 row))
+    (λ j q. get_or-drop 1 row j nothing ∙ a.are (1 + j) (omega arith) ∙ ap (nth h) (sym (get_or-drop 1 at j 0)))
 
 -- those of the steps before one, as the code takes them
 pub earlier_stand : (h : List Event) (at : List ℕ) (row : List Event) (d m : ℕ) → length at ≡ 6 → length row ≡ 6 → Along h at row (d + 1) → m ≤ d → d < 6
-    → Standing h (take m (drop 1 at)) (take (m + 1 - 1) (drop 1 row))
+    → take (m + 1 - 1) (drop 1 row) ≡ each (nth h) (take m (drop 1 at))
 earlier_stand h at row d m la lr a l k = let q : m + 1 - 1 ≡ m = omega arith in rw q (along_stands h at row (d + 1) m la lr a (omega arith) (omega arith))
 
 -- WHICH POSITIONS: by the depth, for a kept pattern

@@ -2,17 +2,12 @@
 -- Assumes nothing: these are definitions.
 use Rattle.std.specs.Prelude.{◌≡◌, ℕ, ◌+◌, ◌-◌, ◌<◌, true, false, List, [], ◌∷◌, length, get_or, ◌==◌, nat_lt, slice_index, slice_index_or}
 use Rattle.timeline.specs.declared.events.Event.{Event}
-use Rattle.timeline.specs.Lists.{pick, each}
+use Rattle.timeline.specs.Lists.{pick}
 use Rattle.timeline.specs.Order.{nothing, nth}
 
 -- an event of another who, or of another kind
 abbrev pub OfAnother : ℕ → ℕ → Event → Type 0
 OfAnother w k e = (e.who == w) ≡ true → (e.kind == k) ≡ false
-
--- these events stand at these positions
-pub record Standing (h : List Event) (places : List ℕ) (events : List Event) : Type 0 where
-  pub inside : (j : ℕ) → j < length places → slice_index places j < length h
-  pub are : events ≡ each (nth h) places
 
 -- the first d of these events stand at the first d of these positions
 pub record Along (h : List Event) (at : List ℕ) (row : List Event) (d : ℕ) : Type 0 where

@@ -10,11 +10,12 @@ ghost use Rattle.rows.specs.Finding.{forbidden, fits, row_ok, row_lo, row_hi, sp
 use crate::held::{Held, is_within};
 use crate::search::Cursor;
 use patterns::Kept;
+use patterns::layout::MOST_STEPS;
 use std::array;
 use timeline::Event;
 
 // How many levels there can be: as many as a pattern has steps.
-pub const LEVELS: usize = 6;
+pub const LEVELS: usize = MOST_STEPS;
 
 // What is chosen so far: how many positions, six of them as a cursor has them, and the events that stand there.
 #[derive(Drop)]
