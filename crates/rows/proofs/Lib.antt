@@ -19,6 +19,7 @@ mod Decoded
 mod Scanned
 mod Nevers
 mod Fitting
+mod Tried
 mod Moves
 mod Following
 pub mod Chosen
