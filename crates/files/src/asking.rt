@@ -1,4 +1,7 @@
 // What a program is called with: a pattern (a file of numbers, a file in which it is typed, or the text itself), and what stands behind it.
+ghost use Rattle.std.specs.Prelude.{IfErr};
+ghost use Rattle.files.specs.Failures.{OfReading};
+
 use crate::complaining::complaint;
 use crate::failing::{Failed, read_file, read_pattern};
 use std::env;
@@ -89,7 +92,9 @@ impl Words for PatternAndEvents {
 }
 
 // What a program's words say; or how it is called, said on standard error: in one line of its own, where `clap` would write another text.
-pub fn asked<W: Words>(rt: &HostRuntime, program: &str) -> Result<W, Failed> {
+pub fn asked<W: Words>(rt: &HostRuntime, program: &str) -> Result<W, Failed>
+    ensures { IfErr result OfReading }
+{
     let mut args = env::args(rt)?;
     let _program = args.next();
     if let (Some(words), None) = (W::next_of(&mut args), args.next()) {
