@@ -6,7 +6,7 @@ ghost use Rattle.files.specs.declared.failing.Failed.TheVariants.{Memory, Output
 
 use crate::bytes::numbers;
 use crate::faults::Fault;
-use crate::reading::read;
+use crate::source::read;
 use std::alloc::{AllocError, AllocFailed};
 use std::process::ExitCode;
 use std::{fmt, io};

@@ -9,7 +9,7 @@ mod expecting;
 mod failing;
 mod faults;
 mod lines;
-mod reading;
+mod source;
 mod text;
 
 pub use asking::{PatternAndEvents, PatternSource, Words, asked};
@@ -18,5 +18,5 @@ pub use complaining::complaint;
 pub use decoding::{EVENT_BYTES, Reading, cut_off, event, events, sound_event};
 pub use failing::{Failed, ending, read_file, read_pattern, said, without_fault};
 pub use faults::{Fault, Part, too_large};
-pub use reading::read;
+pub use source::{Source, read};
 pub use text::{Spaced, line, push_line};

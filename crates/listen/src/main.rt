@@ -2,11 +2,9 @@
 #![tactic(auto)]
 
 mod listening;
-mod source;
 
-use files::{Failed, PatternAndEvents, asked, ending, without_fault};
+use files::{Failed, PatternAndEvents, Source, asked, ending, without_fault};
 use listening::Listening;
-use source::Source;
 use std::process::ExitCode;
 
 const PROGRAM: &str = "listen";

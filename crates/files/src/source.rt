@@ -1,7 +1,8 @@
-// Bytes from a file or standard input.
-ghost use Rattle.std.specs.Prelude.{◌≤◌, length, IfOk};
+// Bytes from a file, or from standard input, at once or as they come.
+ghost use Rattle.std.specs.Prelude.{◌≤◌, length, IfOk, IfErr};
+ghost use Rattle.files.specs.Failures.{OfReading};
 
-use files::{Failed, said};
+use crate::failing::{Failed, said};
 use std::fs::File;
 use std::io::Read;
 use std::{fs, io};
@@ -13,7 +14,7 @@ pub enum Source {
 }
 
 impl Source {
-    // A file, or standard input where the path is `-`.
+    // A file, or standard input where the path is `-`. What there is to read no clause can say.
     fn at(rt: &HostRuntime, path: &str) -> io::Result<Source> {
         if path == "-" {
             return Ok(Source::Input);
@@ -22,7 +23,9 @@ impl Source {
     }
 
     // The same, or why it can't be opened, said on standard error.
-    pub fn open(rt: &HostRuntime, path: &str) -> Result<Source, Failed> {
+    pub fn open(rt: &HostRuntime, path: &str) -> Result<Source, Failed>
+        ensures { IfErr result OfReading }
+    {
         Source::at(rt, path).map_err(|e| said(rt, path, &e))
     }
 
@@ -38,8 +41,23 @@ impl Source {
 
     // The same, or why they can't be read, said on standard error.
     pub fn more(&mut self, rt: &HostRuntime, path: &str, buffer: &mut [u8]) -> Result<usize, Failed>
-        ensures { IfOk result (λ n. n ≤ length buffer.old) }
+        ensures many { IfOk result (λ n. n ≤ length buffer.old) }
+        ensures failure { IfErr result OfReading }
     {
         self.read(rt, buffer).map_err(|e| said(rt, path, &e))
     }
+
+    fn read_to_end(self, rt: &HostRuntime) -> io::Result<Vec<u8>> {
+        let mut bytes = Vec::new(rt.alloc());
+        match self {
+            Source::Path(mut file) => file.read_to_end(&mut bytes)?,
+            Source::Input => rt.stdin().read_to_end(&mut bytes)?,
+        };
+        Ok(bytes)
+    }
+}
+
+// The bytes of a file; of standard input where its path is `-`.
+pub fn read(rt: &HostRuntime, path: &str) -> io::Result<Vec<u8>> {
+    Source::at(rt, path)?.read_to_end(rt)
 }
