@@ -14,7 +14,7 @@ pub fn number(bytes: [u8; NUMBER_BYTES]) -> u64
     u64::from_le_bytes(bytes)
 }
 
-// The numbers that bytes say; None where their count is no multiple of eight.
+// The numbers that bytes say; None where their count is no multiple of eight, which is the one thing that can be wrong with them.
 pub fn numbers(heap: Global, bytes: &[u8]) -> Result<Option<Vec<u64>>, AllocError>
     ensures { IfOk result (Numbers bytes.now) }
 {

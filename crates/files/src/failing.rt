@@ -19,6 +19,7 @@ pub enum Failed {
     Output,
 }
 
+// By hand, since a `From` that `thiserror` writes has no `from_gives`: `read_file`'s clause names what an error becomes.
 impl From<AllocError> for Failed {
     ghost from_gives = { λ _ r. r ≡ Memory };
 

@@ -1,4 +1,5 @@
-// Where the listener's memory has what: 14 words in front, 405 of the pattern, and a ring of slots of five.
+// Where the listener's memory has what: 14 words in front, 405 of the pattern, and a ring of slots of five. It is this program's own
+// account, which asks nothing of the listener: so no constant of it is the listener's.
 
 // The words in front.
 pub const PHASE: usize = 0;

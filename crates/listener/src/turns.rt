@@ -85,7 +85,8 @@ fn write_row(out: &mut Row, numbers: Row, many: usize)
     out[..many].copy_from_slice(&numbers[..many]);
 }
 
-// Tells the next row from a cursor on; where there is none, the telling is done with.
+// Tells the next row from a cursor on; where there is none, the telling is done with. The phase is passed beside the state, as the
+// definitions have it: each caller knows its own.
 pub fn tell(
     memory: &mut Memory,
     phase: Phase,

@@ -76,7 +76,8 @@ impl<'a> Held<'a> {
         }
     }
 
-    // The events from one position on and before an end, in the two parts.
+    // The events from one position on and before an end, in the two parts. The methods below are given both positions, and no view of such a
+    // stretch: what is found is told by its position among all.
     fn between(
         &self,
         from: usize,

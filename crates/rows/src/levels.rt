@@ -17,7 +17,8 @@ use timeline::Event;
 // How many levels there can be: as many as a pattern has steps.
 pub const LEVELS: usize = MOST_STEPS;
 
-// What is chosen so far: how many positions, six of them as a cursor has them, and the events that stand there.
+// What is chosen so far: how many positions, six of them as a cursor has them, and the events that stand there. That
+// they do is a clause of the search's methods and no field: it is said of the search's events too, and of one depth here and the next there.
 #[derive(Drop)]
 pub struct Choice {
     pub depth: usize,
