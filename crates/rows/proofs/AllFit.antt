@@ -1,10 +1,11 @@
 -- The rows that are found are those that fit: from the places of a row to what is said of it, and back.
 use Rattle.std.proofs.Common.{◌≡◌, ℕ, zero, suc, ◌+◌, ◌-◌, ◌<◌, ◌≤◌, Bool, true, false, not, ◌&&◌, leb, List, [], ◌∷◌, length, take, sym, refl, ap, ◌∙◌, subst, not-suc-le-zero, add-zero, arith, length-take-le}
+use Rattle.std.proofs.lemmas.List.{get_or-take}
 use Rattle.std.proofs.lemmas.Bool.{leb-true, le-leb, not-true, not_from_false, and_parts, and_from}
 use Rattle.timeline.specs.declared.events.Event.{Event}
 use Rattle.timeline.specs.Lists.{pick, or, any, none_of}
-use Rattle.timeline.specs.Order.{before, sorted, nth, first_of, last_of}
-use Rattle.timeline.proofs.Order.{sorted_is}
+use Rattle.timeline.specs.Order.{nothing, before, sorted, nth, first_of, last_of}
+use Rattle.timeline.proofs.Order.{sorted_is, nth_is}
 use Rattle.patterns.specs.Patterns.{Step, Pattern, fits_step}
 use Rattle.rows.specs.Rows.{between, goes_on, rows, all_rows, told_before}
 use Rattle.rows.specs.Finding.{forbidden, step_of}
@@ -15,11 +16,7 @@ use Rattle.rows.proofs.Among.{among_sorted, sorted_among, none_among, any_none}
 use Rattle.rows.proofs.Along.{StepByStep, found_steps, steps_found}
 
 nth_take : (n k : ℕ) (r : List Event) → k < n → nth (take n r) k ≡ nth r k
-unfolding nth
-nth_take zero k r h = absurd (not-suc-le-zero h)
-nth_take (suc n) k [] h = refl
-nth_take (suc n) zero (e ∷ r) h = refl
-nth_take (suc n) (suc k) (e ∷ r) h = nth_take n k r (omega arith)
+nth_take n k r h = nth_is (take n r) k ∙ get_or-take n r k nothing h ∙ sym (nth_is r k)
 
 last_take : (i : ℕ) (r : List Event) → i < length r → last_of (take (suc i) r) ≡ nth r i
 last_take i r h = let k : length (take (suc i) r) - 1 ≡ i = omega (arith, length-take-le (suc i) r h) in rw k (nth_take (suc i) i r (omega arith))

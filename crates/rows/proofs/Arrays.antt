@@ -1,6 +1,6 @@
 -- Levels in an array: each move of the search as it is made there, and that what is to come stays what it was.
-use Rattle.std.proofs.Common.{◌≡◌, ℕ, zero, suc, ◌+◌, ◌-◌, ◌<◌, ◌≤◌, true, false, ◌≢◌, List, [], ◌∷◌, ◌++◌, length, get_or, drop, set, sym, refl, ap, ◌∙◌, subst, add-one, arith, take-append-drop, below_more}
-use Rattle.std.proofs.lemmas.List.{get_or-set_same, get_or-set_other, length-set}
+use Rattle.std.proofs.Common.{◌≡◌, ℕ, suc, ◌+◌, ◌-◌, ◌<◌, ◌≤◌, true, false, ◌≢◌, List, [], ◌∷◌, ◌++◌, length, get_or, drop, set, sym, ap, ◌∙◌, subst, add-one, arith, take-append-drop, below_more}
+use Rattle.std.proofs.lemmas.List.{drop-set-lt, get_or-set_same, get_or-set_other, length-set}
 use Rattle.timeline.proofs.Lists.{clash}
 use Rattle.rows.specs.Search.{Space, Barren, rest, chosen, forward}
 use Rattle.rows.proofs.Moves.{over, back, jump, down, found, left, left_back, left_past, left_jump, left_down}
@@ -12,12 +12,6 @@ yet S k at d = rest S (k - 1 - d) (chosen at d) (get_or at d 0)
 
 abbrev pub to_do : ℕ → ℕ → List ℕ → ℕ → ℕ
 to_do b k at d = left b (k - 1 - d) (chosen at d) (get_or at d 0)
-
-drop_set : (at : List ℕ) (j k v : ℕ) → j < k → drop k (set at j v) ≡ drop k at
-drop_set [] j k v l = refl
-drop_set (x ∷ xs) j zero v l = absurd (omega arith)
-drop_set (x ∷ xs) zero (suc k) v l = refl
-drop_set (x ∷ xs) (suc j) (suc k) v l = drop_set xs j k v (omega arith)
 
 -- a place of a search of k levels that began at another, with all positions below b: what is to come is the same
 pub record Came (S : Space) (k b : ℕ) (start : List ℕ) (from : ℕ) (at : List ℕ) (d : ℕ) : Type 0 where
@@ -37,7 +31,7 @@ module _ (S : Space) (k b : ℕ) (small : k ≤ 6) (start : List ℕ) (from : �
         long = length-set at d v ∙ i.long;
         before = λ j₁ h. (let ne : j₁ ≢ d = omega arith in rw (get_or-set_other at d j₁ v 0 ne) (i.before j₁ (omega arith)));
         here = (let h : d < length at = omega (arith, i.deep, i.long) in rw (get_or-set_same at d v 0 h) m);
-        rest_of = drop_set at d k v (omega (arith, i.deep)) ∙ i.rest_of;
+        rest_of = drop-set-lt k at d v (omega (arith, i.deep)) ∙ i.rest_of;
         same = e ∙ i.same;
       }
 
@@ -110,7 +104,7 @@ module _ (S : Space) (k b : ℕ) (small : k ≤ 6) (start : List ℕ) (from : �
           long = length-set at e v ∙ i.long;
           before = λ j s. (let ne : j ≢ e = omega arith in rw (get_or-set_other at e j v 0 ne) (below j s));
           here = rw w (omega arith);
-          rest_of = drop_set at e k v z ∙ i.rest_of;
+          rest_of = drop-set-lt k at e v z ∙ i.rest_of;
           same = a ∙ i.same;
         },
         y,

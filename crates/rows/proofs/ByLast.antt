@@ -3,7 +3,7 @@ use Rattle.std.proofs.Common.{◌≡◌, ℕ, Bool, true, false, not, ◌&&◌, 
 use mathlib.Core.Bool.{false≢true}
 use Rattle.std.proofs.lemmas.Bool.Decides.{nat_tests}
 use Rattle.timeline.specs.declared.events.Event.{Event}
-use Rattle.timeline.specs.Lists.{or, any, those, flat, run}
+use Rattle.timeline.specs.Lists.{any, those, flat, run}
 use Rattle.timeline.specs.Order.{nth, before, last_of, sorted, each_heard}
 use Rattle.timeline.proofs.Lists.{All, Pairs, all_map, all_any, all_both, all_flat, all_those, those_all, those_same, those_those, pairs_those, pairs_flat}
 use Rattle.timeline.proofs.Each.{flat_each, flat_same}
@@ -14,8 +14,10 @@ use Rattle.rows.specs.Rows.{goes_on, rows, row_before, told_before, in_order}
 use Rattle.rows.specs.SearchLaws.{same, Ahead, Rises}
 use Rattle.rows.proofs.Order.{told_order, in_order_is}
 use Rattle.rows.proofs.Rows.{Begins, rows_begin, first}
+use Rattle.rows.proofs.Picks.{or_right}
 use Rattle.rows.proofs.Positions.{each_nth}
 use Rattle.rows.proofs.Reach.{last_snoc}
+use Rattle.rows.proofs.Rising.{ahead_all}
 
 -- rows among rising events rise, event by event
 rows_rise : (all : List Event) (w : ℕ) → Pairs (λ x y. before x y ≡ true) all → (ss : List Step) (es : List Event) → Pairs (λ r s. row_before r s ≡ true) (rows all w ss es)
@@ -56,11 +58,7 @@ In h e = any (λ f. same f e) h ≡ true
 
 in_more : (x e : Event) (h : List Event) → In h e → In (x ∷ h) e
 unfolding any
-in_more x e h k = rw k (or_true (same x e))
-  where
-    or_true : (b : Bool) → or b true ≡ true
-    or_true true = refl
-    or_true false = refl
+in_more x e h k = or_right (same x e) (any (λ f. same f e) h) k
 
 in_all : (h : List Event) → All (In h) h
 unfolding any
@@ -85,10 +83,6 @@ later x z (f ∷ h) a k = let ih = later x z h a.1 in let b = a.0 in let c = cro
   where
     cross_same : (x f z : Event) → before x f ≡ true → same f z ≡ true → before x z ≡ true
     cross_same x f z b s = grind (arith, nat_tests)
-
-ahead_all : (x : Event) (h : List Event) → Ahead x h → All (λ e. before x e ≡ true) h
-ahead_all x [] a = tt
-ahead_all x (f ∷ h) a = (a.0, ahead_all x h a.1)
 
 -- rows in order, by their last events
 by_last : (h : List Event) → Rises h → (rs : List (List Event)) → Ord told_before rs → All (λ r. In h (last_of r)) rs → rs ≡ flat (λ e. those (λ r. same e (last_of r)) rs) h

@@ -1,7 +1,7 @@
 -- The positions chosen so far, as an array has them, and where a search can be.
 use Rattle.std.proofs.Common.{◌≡◌, ℕ, zero, suc, ◌+◌, ◌<◌, ◌≤◌, Bool, true, ◌&&◌, ltb, leb, ◌≢◌, List, [], ◌∷◌, ◌++◌, length, get_or, take, drop, set, sym, refl, ap, ◌∙◌, ap₂, inl, inr, append_assoc, eq-or-lt_of_le, arith, length-append, take-suc}
 use Rattle.std.specs.List.{list_all}
-use Rattle.std.proofs.lemmas.List.{drop_more, get_or-set_other}
+use Rattle.std.proofs.lemmas.List.{get_or_at, get_or_append_left, drop_more, get_or-set_other}
 use Rattle.std.proofs.lemmas.Bool.{and_parts, leb-true, ltb-true, le-leb, lt-ltb}
 use Rattle.timeline.specs.Lists.{every, run}
 use Rattle.rows.specs.Search.{chosen, forward}
@@ -38,11 +38,7 @@ unfolding chosen forward
 chosen_back [] xs = refl
 chosen_back (x ∷ r) xs =
     let e : (forward r ++ x ∷ []) ++ xs ≡ forward r ++ x ∷ xs = append_assoc (forward r) (x ∷ []) xs in
-    ap (λ ys. chosen ys (suc (length r))) e ∙ ap₂ (λ y ys. y ∷ ys) (past (forward r) (length r) (sym (length_forward r))) (chosen_back r (x ∷ xs))
-  where
-    past : (ys : List ℕ) (n : ℕ) → n ≡ length ys → get_or (ys ++ x ∷ xs) n 0 ≡ x
-    past [] n e = rw e refl
-    past (y ∷ ys) n e = rw e (past ys (length ys) refl)
+    ap (λ ys. chosen ys (suc (length r))) e ∙ ap₂ (λ y ys. y ∷ ys) (get_or_at (forward r) x xs 0 (length r) (length_forward r)) (chosen_back r (x ∷ xs))
 
 -- positions below a bound
 pub below_chosen : (b : ℕ) (at : List ℕ) (d : ℕ) → ((j : ℕ) → j < d → get_or at j 0 < b) → AllBelow b (chosen at d)
@@ -119,11 +115,7 @@ unfolding row_hi forward
 hi_bound upto [] a = omega arith
 hi_bound upto (i ∷ pre) a = first (i ∷ pre) a
   where
-    front : (xs ys : List ℕ) → 0 < length xs → get_or (xs ++ ys) 0 0 ≡ get_or xs 0 0
-    front [] ys q = absurd (omega arith)
-    front (x ∷ xs) ys q = refl
-
     first : (pre : List ℕ) → AllBelow upto pre → get_or (forward pre) 0 0 ≤ upto
     first [] a = omega arith
     first (i ∷ []) a = omega (arith, a.0)
-    first (i ∷ j ∷ pre) a = let e = front (forward (j ∷ pre)) (i ∷ []) (omega (arith, length_forward (j ∷ pre))) in omega (arith, e, first (j ∷ pre) a.1)
+    first (i ∷ j ∷ pre) a = let e = get_or_append_left (forward (j ∷ pre)) (i ∷ []) 0 0 (omega (arith, length_forward (j ∷ pre))) in omega (arith, e, first (j ∷ pre) a.1)

@@ -1,10 +1,11 @@
 -- Events in two parts of numbers, read by their positions.
-use Rattle.std.proofs.Common.{◌≡◌, ℕ, zero, suc, ◌+◌, ◌-◌, ◌/◌, ◌<◌, ◌≤◌, List, [], ◌∷◌, ◌++◌, map, length, get_or, min, max, take, drop, sym, refl, ap, ◌∙◌, ap₂, get_or-take, get_or-drop, arith, length-append}
+use Rattle.std.proofs.Common.{◌≡◌, ℕ, suc, ◌+◌, ◌-◌, ◌/◌, ◌<◌, ◌≤◌, List, [], ◌∷◌, ◌++◌, map, length, get_or, min, max, take, drop, sym, refl, ap, ◌∙◌, ap₂, get_or-take, get_or-drop, arith, length-append}
 use Rattle.std.specs.Simd.{first_chunks}
-use Rattle.std.proofs.lemmas.List.{length-map, length-take}
+use Rattle.std.proofs.lemmas.List.{get_or-map, get_or_append_left, get_or-append_right, length-map, length-take}
 use Rattle.timeline.specs.declared.events.Event.{Event}
-use Rattle.timeline.specs.Order.{nth}
+use Rattle.timeline.specs.Order.{nothing, nth}
 use Rattle.timeline.specs.Ring.{decode}
+use Rattle.timeline.proofs.Order.{nth_is}
 use Rattle.rows.specs.Parts.{event_of}
 
 -- five numbers at a time
@@ -19,22 +20,13 @@ decode_is (h ∷ t ∷ k ∷ w ∷ v ∷ xs) =
     rw e (ap (λ es. event_of (h ∷ t ∷ k ∷ w ∷ v ∷ []) ∷ es) (decode_is xs))
 
 nth_map : (xs : List (List ℕ)) (p : ℕ) (d : List ℕ) → p < length xs → nth (map event_of xs) p ≡ event_of (get_or xs p d)
-unfolding nth
-nth_map [] p d l = absurd (omega arith)
-nth_map (x ∷ xs) zero d l = refl
-nth_map (x ∷ xs) (suc p) d l = nth_map xs p d (omega arith)
+nth_map xs p d l = nth_is (map event_of xs) p ∙ get_or-map event_of xs p d nothing l
 
 nth_front : (es fs : List Event) (p : ℕ) → p < length es → nth (es ++ fs) p ≡ nth es p
-unfolding nth
-nth_front [] fs p l = absurd (omega arith)
-nth_front (e ∷ es) fs zero l = refl
-nth_front (e ∷ es) fs (suc p) l = nth_front es fs p (omega arith)
+nth_front es fs p l = nth_is (es ++ fs) p ∙ get_or_append_left es fs nothing p l ∙ sym (nth_is es p)
 
 nth_back : (es fs : List Event) (p : ℕ) → length es ≤ p → nth (es ++ fs) p ≡ nth fs (p - length es)
-unfolding nth
-nth_back [] fs p l = let e : p - 0 ≡ p = omega arith in rw e refl
-nth_back (e ∷ es) fs zero l = absurd (omega arith)
-nth_back (e ∷ es) fs (suc p) l = let q : suc p - suc (length es) ≡ p - length es = omega arith in nth_back es fs p (omega arith) ∙ ap (nth fs) (sym q)
+nth_back es fs p l = nth_is (es ++ fs) p ∙ get_or-append_right es fs (length es) p nothing refl l ∙ sym (nth_is fs (p - length es))
 
 pub length_parts : (front back : List (List ℕ)) → length (map event_of front ++ map event_of back) ≡ length front + length back
 length_parts front back = length-append (map event_of front) (map event_of back) ∙ ap₂ (λ a b. a + b) (length-map front event_of) (length-map back event_of)

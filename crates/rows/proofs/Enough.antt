@@ -1,7 +1,7 @@
 -- What needn't be held doesn't matter: rows that end no earlier than a mark are found among what is held under it.
 use Rattle.std.proofs.Common.{◌≡◌, ℕ, ◌+◌, ◌≤◌, Bool, true, false, ◌&&◌, eqb, ltb, leb, List, [], ◌∷◌, ◌++◌, sym, refl, ap, ◌∙◌, arith}
 use Rattle.std.proofs.lemmas.Bool.Decides.{nat_tests}
-use Rattle.std.proofs.lemmas.Bool.{ltb-true, ltb-false, le-leb, lt-leb, eqb-true, eq-eqb, and_parts, and_from}
+use Rattle.std.proofs.lemmas.Bool.{ltb-true, ltb-false, le-leb, lt-leb, and_parts, and_from}
 use Rattle.timeline.specs.declared.events.Event.{Event}
 use Rattle.timeline.specs.Lists.{or, any, every, those, none_of}
 use Rattle.timeline.specs.Order.{before, sorted, first_of, last_of}
@@ -12,11 +12,9 @@ use Rattle.patterns.specs.Patterns.{Step, Pattern, fits_step, holds, named}
 use Rattle.rows.specs.Rows.{between, rows, all_rows, told_before}
 use Rattle.rows.specs.Known.{heard_to, is_held}
 use Rattle.rows.specs.Laws.{HeldEnough}
+use Rattle.rows.proofs.Picks.{or_right, eqb_turned}
 use Rattle.rows.proofs.Reach.{Short, Reach, near, short_none, short_snoc, last_snoc, first_snoc, before_time}
 use Rattle.rows.proofs.Same.{those_in_order, bad, goes_same, rows_same}
-
-or_right : (a b : Bool) → b ≡ true → or a b ≡ true
-or_right a b h = grind arith
 
 any_mono : {A : Type 0} (f g : A → Bool) → ((x : A) → f x ≡ true → g x ≡ true) → (xs : List A) → any f xs ≡ true → any g xs ≡ true
 unfolding any
@@ -31,9 +29,6 @@ any_has {E} f (x ∷ xs) = (
   all_map (λ y. (e : E) → f e y ≡ true → any (f e) xs ≡ true) (λ y. (e : E) → f e y ≡ true → or (f e x) (any (f e) xs) ≡ true)
       (λ y k e h. or_right (f e x) (any (f e) xs) (k e h)) xs (any_has f xs),
 )
-
-flip_eqb : (a b : ℕ) → eqb a b ≡ true → eqb b a ≡ true
-flip_eqb a b h = eq-eqb b a (sym (eqb-true a b h))
 
 module _ (p : Pattern) (mark : ℕ) where
   abbrev ends_late : List Event → Bool
@@ -67,7 +62,7 @@ module _ (p : Pattern) (mark : ℕ) where
         let a = (short_snoc p.within es e nr f).up in
         let b : (last_of (es ++ e ∷ [])).time ≡ e.time = ap (λ x. x.time) (last_snoc es e) in
         let c = far in
-        let g : eqb s.kind e.kind ≡ true = flip_eqb e.kind s.kind (and_parts (eqb e.kind s.kind) (every (holds es e) s.tests) fits).0 in
+        let g : eqb s.kind e.kind ≡ true = eqb_turned s.kind e.kind ∙ (and_parts (eqb e.kind s.kind) (every (holds es e) s.tests) fits).0 in
         and_from (leb mark (e.time + p.within)) (named p e) (le-leb mark (e.time + p.within) (omega arith)) (o e (rw g))
 
     holds_bad : none_of es ≡ false → (x : Event) → is_held p mark x ≡ false → bad es e s x ≡ false
@@ -83,7 +78,7 @@ module _ (p : Pattern) (mark : ℕ) where
             let u = far in
             let v : any (λ n. eqb n.kind x.kind) s.never ≡ true =
             any_mono (λ n. fits_step es x n.kind n.tests) (λ n. eqb n.kind x.kind)
-            (λ n y. flip_eqb x.kind n.kind (and_parts (eqb x.kind n.kind) (every (holds es x) n.tests) y).0) s.never a.1 in
+            (λ n y. eqb_turned n.kind x.kind ∙ (and_parts (eqb x.kind n.kind) (every (holds es x) n.tests) y).0) s.never a.1 in
             clash (and_from (leb mark (x.time + p.within)) (named p x) (le-leb mark (x.time + p.within) (omega arith))
             (o x (or_right (eqb s.kind x.kind) (any (λ n. eqb n.kind x.kind) s.never) v))) h
 

@@ -1,6 +1,8 @@
 -- What a level asks for, read off the array of positions.
 use Rattle.std.proofs.Common.{◌≡◌, ℕ, zero, suc, ◌+◌, ◌-◌, ◌<◌, ◌≤◌, Bool, true, false, ◌&&◌, eqb, List, [], ◌∷◌, length, get_or, take, drop, sym, refl, ap, ◌∙◌, ap₂, add-one, arith, length-drop, get_or-drop}
 use Rattle.std.proofs.lemmas.Bool.{eq-eqb, ne_eqb}
+use Rattle.std.proofs.lemmas.List.{get_or-take}
+use Rattle.std.proofs.Math.Bool.{and-false}
 use Rattle.timeline.specs.declared.events.Event.{Event}
 use Rattle.timeline.specs.Lists.{pick, each}
 use Rattle.timeline.specs.Order.{nothing, nth}
@@ -9,7 +11,6 @@ use Rattle.patterns.proofs.Steps.{steps_long}
 use Rattle.rows.specs.Held.{Along}
 use Rattle.rows.specs.Search.{chosen, forward}
 use Rattle.rows.specs.Finding.{fits, row_ok, row_lo, row_hi}
-use Rattle.rows.proofs.Picks.{and_false}
 use Rattle.rows.proofs.Chosen.{chosen_forward, length_chosen}
 use Rattle.rows.proofs.Steps.{kept_at}
 
@@ -18,14 +19,10 @@ drop_take [] zero = refl
 drop_take [] (suc d) = refl
 drop_take (x ∷ xs) d = refl
 
-first_take : (at : List ℕ) (d : ℕ) → get_or (take (suc d) at) 0 0 ≡ get_or at 0 0
-first_take [] d = refl
-first_take (x ∷ xs) d = refl
-
 -- WHERE A LEVEL BEGINS AND ENDS
 hi_some : (upto : ℕ) (at : List ℕ) (d : ℕ) → suc d ≤ length at → get_or at 0 0 ≡ row_hi upto (chosen at (suc d))
 unfolding row_hi chosen
-hi_some upto at d l = let e : forward (get_or at d 0 ∷ chosen at d) ≡ take (suc d) at = chosen_forward at (suc d) l in rw e (sym (first_take at d))
+hi_some upto at d l = let e : forward (get_or at d 0 ∷ chosen at d) ≡ take (suc d) at = chosen_forward at (suc d) l in rw e (sym (get_or-take (suc d) at 0 0 (omega arith)))
 
 pub hi_none : (upto : ℕ) (at : List ℕ) (d : ℕ) → d ≡ 0 → upto ≡ row_hi upto (chosen at d)
 unfolding row_hi chosen
@@ -95,7 +92,7 @@ module _ (h : List Event) (c at : List ℕ) where
   ok_level d q l =
       let e : forward (get_or at d 0 ∷ chosen at d) ≡ take (suc d) at = chosen_forward at (suc d) (omega arith) in
       let f : forward (get_or at (suc d) 0 ∷ get_or at d 0 ∷ chosen at d) ≡ take (suc (suc d)) at = chosen_forward at (suc (suc d)) (omega arith) in
-      rw (e, f, length_chosen at d, steps_long c, kept_at c d (omega arith), kept_at c (kept_count c - 1) (omega arith), drop_take at d, drop_take at (suc d), first_take at d) refl
+      rw (e, f, length_chosen at d, steps_long c, kept_at c d (omega arith), kept_at c (kept_count c - 1) (omega arith), drop_take at d, drop_take at (suc d), get_or-take (suc d) at 0 0 (omega arith)) refl
 
   -- at a depth that isn't 0: its own step is not met
   pub ok_not : (d : ℕ) → (d ≡ 0 → ⊥) → d < kept_count c → d < length at → false ≡ fits h w (kept_step c (d - 1)) (take (d - 1) (drop 1 at)) (get_or at d 0) → false ≡ ok_at d
@@ -128,4 +125,4 @@ module _ (h : List Event) (c at : List ℕ) where
   ok_last_not (suc d) z q l n e =
       let t : eqb (d + 2) (kept_count c) ≡ true = eq-eqb _ _ (omega arith) in
       let k : kept_count c - 1 ≡ suc d = omega arith in
-      sym (ok_level d q l ∙ rw (t, k, ← e) (and_false (fits h w (kept_step c d) (take d (drop 1 at)) (get_or at (suc d) 0))))
+      sym (ok_level d q l ∙ rw (t, k, ← e) (and-false (fits h w (kept_step c d) (take d (drop 1 at)) (get_or at (suc d) 0))))

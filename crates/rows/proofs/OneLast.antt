@@ -1,5 +1,6 @@
 -- The rows of one last event: those that the search finds are those of the definition.
 use Rattle.std.proofs.Common.{◌≡◌, ℕ, suc, ◌+◌, ◌-◌, ◌<◌, ◌≤◌, Bool, true, false, not, ◌&&◌, eqb, List, [], ◌∷◌, ◌++◌, length, sym, refl, ap, ◌∙◌, ap₂, append_assoc, append-nil, arith, length-append}
+use Rattle.std.proofs.Math.Bool.{and-true}
 use Rattle.std.proofs.lemmas.Bool.Decides.{nat_tests}
 use Rattle.timeline.specs.declared.events.Event.{Event}
 use Rattle.timeline.specs.Lists.{pick, those, flat, each, run}
@@ -13,7 +14,7 @@ use Rattle.rows.specs.Search.{paths, forward}
 use Rattle.rows.specs.Finding.{fits, step_of, row_ok, row_lo, row_hi, space, row_of}
 use Rattle.rows.specs.SearchLaws.{same, Rises, RowsOfOne}
 use Rattle.rows.proofs.Positions.{flat_pick, flat_none, flat_same, flat_narrow, each_pick, each_nth}
-use Rattle.rows.proofs.Picks.{those_pick, pick_none, pick_and, and_true}
+use Rattle.rows.proofs.Picks.{those_pick, pick_none, pick_and}
 use Rattle.rows.proofs.Steps.{step_mid, step_last}
 use Rattle.rows.proofs.Rising.{nth_before, not_before, goes_first, goes_next, goes_not, ends_later, snoc_each, last_each}
 
@@ -158,7 +159,7 @@ module _ (h : List Event) (rise : Rises h) (p : Pattern) (upto l : ℕ) (in-rang
       let y : length p.steps ≡ length ps + (3 + length ts) = ap length e ∙ length-append ss (s ∷ t ∷ u ∷ ts) ∙ omega arith in
       let z : eqb (length ps + 2) (length p.steps) ≡ false = rw y (grind (arith, nat_tests)) in
       let v : step_of p.steps (length ps) ≡ s = rw (e, ← n) (step_mid ss s (t ∷ u ∷ ts)) in
-      ap₂ (λ c r. pick c r []) (ok_is i x pre ps lo o ∙ rw (z, v) (and_true (fits h w s ps i)))
+      ap₂ (λ c r. pick c r []) (ok_is i x pre ps lo o ∙ rw (z, v) (and-true (fits h w s ps i)))
       (agree (ss ++ s ∷ []) t u ts i (x ∷ pre) (ps ++ i ∷ []) (suc i) (place_next x pre ps lo o i k) (e ∙ sym (append_assoc ss (s ∷ []) (t ∷ u ∷ ts)))
       (omega (arith, length-append ss (s ∷ []), length-append ps (i ∷ [])))))
       ∙ sym (defined_more x pre ps lo o s t (u ∷ ts))

@@ -1,23 +1,20 @@
 -- A candidate of another who than a test asks for may not be chosen.
 use Rattle.std.proofs.Common.{◌≡◌, ℕ, ◌+◌, ◌-◌, ◌<◌, Bool, true, false, eqb, ◌≢◌, List, length, get_or, take, drop, set, sym, refl, ap, ◌∙◌, ap₂, arith, length-drop, length-take, get_or-drop, get_or-take}
 use Rattle.std.proofs.lemmas.List.{get_or-set_same, get_or-set_other, length-set}
-use Rattle.std.proofs.lemmas.Bool.{eqb-false, ne_eqb}
 use Rattle.timeline.specs.declared.events.Event.{Event}
 use Rattle.timeline.specs.Lists.{each}
 use Rattle.timeline.specs.Order.{nothing, nth}
-use Rattle.patterns.specs.Patterns.{Step, fits_step}
+use Rattle.patterns.specs.Patterns.{fits_step}
 use Rattle.patterns.specs.Kept.{kept_step, kept_count, kept_pattern}
 use Rattle.patterns.proofs.Steps.{steps_six}
 use Rattle.rows.specs.Held.{Along}
 use Rattle.rows.specs.Search.{chosen}
-use Rattle.rows.specs.Finding.{fits, row_ok}
+use Rattle.rows.specs.Finding.{row_ok}
+use Rattle.rows.proofs.Picks.{eqb_turned}
 use Rattle.rows.proofs.Positions.{nth_each}
 use Rattle.rows.proofs.Chosen.{chosen_set}
 use Rattle.rows.proofs.Fitting.{fits_not}
 use Rattle.rows.proofs.LevelOk.{along_stands, ok_not, ok_last_not}
-
-other_way : (a b : ℕ) → eqb a b ≡ false → eqb b a ≡ false
-other_way a b e = ne_eqb b a (λ q. eqb-false a b e (sym q))
 
 -- of a who or not
 pub either_who : {Z : Type 0} (x w : ℕ) → (eqb x w ≡ true → Z) → (eqb x w ≡ false → Z) → Z
@@ -26,10 +23,6 @@ either_who {Z = Z} x w f g = go (eqb x w) refl
     go : (b : Bool) → eqb x w ≡ b → Z
     go true q = f q
     go false q = g q
-
-fits_no : (h : List Event) (w : ℕ) (s : Step) (ps : List ℕ) (p : ℕ) → fits_step (each (nth h) ps) (nth h p) s.kind s.tests ≡ false → false ≡ fits h w s ps p
-unfolding fits
-fits_no h w s ps p t = rw t refl
 
 module _ (h : List Event) (c at : List ℕ) (row : List Event) (d : ℕ) (la : length at ≡ 6) (lr : length row ≡ 6) (few : d < kept_count c) (z : d ≡ 0 → ⊥)
     (al : Along h at row d) (i : ℕ) where
@@ -78,7 +71,7 @@ module _ (h : List Event) (c at : List ℕ) (row : List Event) (d : ℕ) (la : l
     pub last_not : eqb (nth h i).who (get_or row 0 nothing).who ≡ false → unchosen
     last_not t =
         let a : get_or row 0 nothing ≡ nth h (get_or at₁ 0 0) = along₁.are 0 (omega arith) in
-        let u = other_way (nth h i).who (get_or row 0 nothing).who t in
+        let u = eqb_turned (get_or row 0 nothing).who (nth h i).who ∙ t in
         let v : eqb (nth h (get_or at₁ 0 0)).who (nth (each (nth h) (take d (drop 1 at₁))) (d - 1)).who ≡ false =
         ap₂ (λ x y. eqb x.who y.who) (sym a) own_place ∙ u in
-        back_to (ok_last_not h c at₁ d z few long end (fits_no h (kept_pattern c).within (kept_step c d) (take d (drop 1 at₁)) (get_or at₁ 0 0) (asked (each (nth h) (take d (drop 1 at₁))) (nth h (get_or at₁ 0 0)) v)))
+        back_to (ok_last_not h c at₁ d z few long end (fits_not h (kept_pattern c).within (kept_step c d) (take d (drop 1 at₁)) (each (nth h) (take d (drop 1 at₁))) (get_or at₁ 0 0) (nth h (get_or at₁ 0 0)) refl refl (asked (each (nth h) (take d (drop 1 at₁))) (nth h (get_or at₁ 0 0)) v)))

@@ -1,6 +1,7 @@
 -- One of two lists by a test, and tests in a row.
-use Rattle.std.proofs.Common.{◌≡◌, Bool, true, false, ◌&&◌, List, [], refl}
-use Rattle.timeline.specs.Lists.{pick, those}
+use Rattle.std.proofs.Common.{◌≡◌, ℕ, Bool, true, false, ◌&&◌, eqb, List, [], refl, arith}
+use Rattle.std.proofs.lemmas.Bool.Decides.{nat_tests}
+use Rattle.timeline.specs.Lists.{pick, or, those}
 
 pub those_pick : {A : Type 0} (f : A → Bool) (b : Bool) (xs : List A) → those f (pick b xs []) ≡ pick b (those f xs) []
 unfolding those
@@ -15,10 +16,10 @@ pub pick_and : {A : Type 0} (a b : Bool) (xs : List A) → pick (a && b) xs [] �
 pick_and true b xs = refl
 pick_and false b xs = refl
 
-pub and_true : (a : Bool) → (a && true) ≡ a
-and_true true = refl
-and_true false = refl
+pub or_right : (a b : Bool) → b ≡ true → or a b ≡ true
+or_right true b h = refl
+or_right false b h = h
 
-pub and_false : (a : Bool) → (a && false) ≡ false
-and_false true = refl
-and_false false = refl
+-- two numbers are the same either way round
+pub eqb_turned : (a b : ℕ) → eqb a b ≡ eqb b a
+eqb_turned a b = grind (arith, nat_tests)

@@ -4,6 +4,8 @@ use Rattle.timeline.specs.declared.events.Event.{Event}
 use Rattle.timeline.specs.Lists.{pick, or, any, those, flat, each, run}
 use Rattle.timeline.specs.Order.{nth}
 use Rattle.timeline.proofs.Lists.{all_any}
+use Rattle.rows.proofs.Picks.{or_right}
+use Rattle.rows.proofs.Eaches.{at_each}
 use Rattle.timeline.proofs.Each.{any_each}
 
 -- it holds of every number from a on and below b
@@ -88,12 +90,8 @@ any_at f a zero j k l e = absurd (omega arith)
 any_at f a (suc n) j k l e =
     elim (eq-or-lt_of_le k) [
       | inl q ↦ let t : f a ≡ true = ap f q ∙ e in rw t refl
-      | inr m ↦ ap (or (f a)) (any_at f (suc a) n j m (omega arith) e) ∙ or_true (f a)
+      | inr m ↦ or_right (f a) (any f (run (suc a) n)) (any_at f (suc a) n j m (omega arith) e)
     ]
-  where
-    or_true : (b : Bool) → or b true ≡ true
-    or_true true = refl
-    or_true false = refl
 
 any_same : (f g : ℕ → Bool) (a n : ℕ) → Within (λ i. f i ≡ g i) a (a + n) → any f (run a n) ≡ any g (run a n)
 unfolding any run
@@ -126,10 +124,7 @@ each_nth [] = refl
 each_nth (e ∷ h) = ap (λ r. e ∷ r) (shifted e h 0 (length h) ∙ each_nth h)
 
 pub nth_each : (h : List Event) (ps : List ℕ) (j : ℕ) → j < length ps → nth (each (nth h) ps) j ≡ nth h (get_or ps j 0)
-unfolding each nth
-nth_each h [] j l = absurd (omega arith)
-nth_each h (p ∷ ps) zero l = refl
-nth_each h (p ∷ ps) (suc j) l = nth_each h ps j (omega arith)
+nth_each h ps j l = at_each (nth h) ps j 0 l
 
 -- a test passes on a part of a list by positions alone
 pub any_between : (f : Event → Bool) (g : ℕ → Bool) (h : List Event) (a b : ℕ) → a ≤ b → b ≤ length h → Within (λ i. f (nth h i) ≡ false) 0 a

@@ -1,5 +1,7 @@
 -- Positions that lead nowhere: of another kind than the level's step, and those from which the last event is out of the window.
 use Rattle.std.proofs.Common.{◌≡◌, ℕ, zero, suc, ◌+◌, ◌-◌, ◌<◌, ◌≤◌, Bool, true, false, eqb, leb, List, [], ◌∷◌, ◌++◌, length, get_or, drop, sym, refl, ap, ◌∙◌, arith}
+use Rattle.std.proofs.Math.Bool.{and-false}
+use Rattle.std.proofs.lemmas.List.{length_push, get_or_append_left}
 use Rattle.std.proofs.lemmas.Bool.Decides.{nat_tests}
 use Rattle.std.proofs.lemmas.Bool.{eq-eqb, ne_eqb, eqb-true}
 use Rattle.timeline.specs.declared.events.Event.{Event}
@@ -12,7 +14,6 @@ use Rattle.patterns.proofs.Steps.{steps_long}
 use Rattle.rows.specs.Held.{level_step}
 use Rattle.rows.specs.Search.{paths, Barren, chosen, forward}
 use Rattle.rows.specs.Finding.{fits, step_of, row_ok, row_lo, row_hi, space}
-use Rattle.rows.proofs.Picks.{and_false}
 use Rattle.rows.proofs.Chosen.{length_chosen}
 use Rattle.rows.proofs.Steps.{kept_at}
 use Rattle.rows.proofs.LevelOk.{lo_more}
@@ -41,16 +42,12 @@ unfolding flat
 flat_nothing g e [] = refl
 flat_nothing g e (x ∷ xs) = rw (e x) (flat_nothing g e xs)
 
-front_first : (xs : List ℕ) (x c : ℕ) → get_or ((xs ++ x ∷ []) ++ c ∷ []) 0 0 ≡ get_or (xs ++ x ∷ []) 0 0
-front_first [] x c = refl
-front_first (y ∷ xs) x c = refl
-
 module _ (h : List Event) (p : Pattern) (upto : ℕ) where
   -- the first event at i, the last at l, and l is out of the window from i
   module _ (i l : ℕ) (late : leb (nth h l).time ((nth h i).time + p.within) ≡ false) where
     unfit : (s : Step) (ps : List ℕ) → fits h p.within s (i ∷ ps) l ≡ false
     unfolding fits none_of
-    unfit s ps = rw late (and_false (fits_step (each (nth h) (i ∷ ps)) (nth h l) s.kind s.tests))
+    unfit s ps = rw late (and-false (fits_step (each (nth h) (i ∷ ps)) (nth h l) s.kind s.tests))
 
     -- at the last level none may be chosen
     end_not : (c x : ℕ) (pre ps : List ℕ) → forward (c ∷ x ∷ pre) ≡ l ∷ i ∷ ps → length pre + 2 ≡ length p.steps → row_ok h p.within p.steps (x ∷ pre) c ≡ false
@@ -58,8 +55,8 @@ module _ (h : List Event) (p : Pattern) (upto : ℕ) where
     end_not c x pre ps e n =
         let t : eqb (length pre + 2) (length p.steps) ≡ true = eq-eqb _ _ n in
         let f : (forward pre ++ x ∷ []) ++ c ∷ [] ≡ l ∷ i ∷ ps = e in
-        let g : get_or (forward pre ++ x ∷ []) 0 0 ≡ l = sym (front_first (forward pre) x c) ∙ ap (λ xs. get_or xs 0 0) f in
-        rw (t, f, g, unfit (step_of p.steps (length p.steps - 1)) ps) (and_false (fits h p.within (step_of p.steps (length pre)) (drop 1 (forward pre ++ x ∷ [])) c))
+        let g : get_or (forward pre ++ x ∷ []) 0 0 ≡ l = sym (get_or_append_left (forward pre ++ x ∷ []) (c ∷ []) 0 0 (omega (arith, length_push (forward pre) x))) ∙ ap (λ xs. get_or xs 0 0) f in
+        rw (t, f, g, unfit (step_of p.steps (length p.steps - 1)) ps) (and-false (fits h p.within (step_of p.steps (length pre)) (drop 1 (forward pre ++ x ∷ [])) c))
 
     -- so there is no way behind
     none_behind : (n x : ℕ) (pre ps : List ℕ) → forward (x ∷ pre) ≡ l ∷ i ∷ ps → suc n + length (x ∷ pre) ≡ length p.steps → paths (space h p upto) (suc n) (x ∷ pre) ≡ []

@@ -1,24 +1,20 @@
 -- How far a row reaches: its first and last event as it grows, and that it stays within the window.
-use Rattle.std.proofs.Common.{◌≡◌, ℕ, ◌+◌, ◌-◌, ◌≤◌, Bool, true, false, ◌&&◌, leb, List, [], ◌∷◌, ◌++◌, length, sym, refl, ◌∙◌, subst, true≢false, arith, length-append}
+use Rattle.std.proofs.Common.{◌≡◌, ℕ, ◌+◌, ◌-◌, ◌≤◌, Bool, true, false, ◌&&◌, leb, List, [], ◌∷◌, ◌++◌, length, sym, refl, ◌∙◌, subst, true≢false, arith}
 use Rattle.std.proofs.lemmas.Bool.Decides.{nat_tests}
 use Rattle.std.proofs.lemmas.Bool.{and_parts}
+use Rattle.std.proofs.lemmas.List.{length_push, get_or_push}
 use Rattle.timeline.specs.declared.events.Event.{Event}
 use Rattle.timeline.specs.Lists.{or, those, none_of}
-use Rattle.timeline.specs.Order.{before, nth, first_of, last_of}
+use Rattle.timeline.specs.Order.{nothing, before, nth, first_of, last_of}
 use Rattle.timeline.proofs.Lists.{All, all_map, all_flat, all_any, all_those}
-use Rattle.timeline.proofs.Order.{before_irr}
+use Rattle.timeline.proofs.Order.{before_irr, nth_is}
 use Rattle.patterns.specs.Patterns.{Step, fits_step}
 use Rattle.rows.specs.Rows.{clear, goes_on, rows}
 
-nth_at : (es : List Event) (e : Event) → nth (es ++ e ∷ []) (length es) ≡ e
-unfolding nth
-nth_at [] e = refl
-nth_at (a ∷ es) e = nth_at es e
-
 pub last_snoc : (es : List Event) (e : Event) → last_of (es ++ e ∷ []) ≡ e
-last_snoc es e = let k : length (es ++ e ∷ []) - 1 ≡ length es = omega (arith, length-append es (e ∷ [])) in rw k (nth_at es e)
+last_snoc es e = nth_is (es ++ e ∷ []) (length (es ++ e ∷ []) - 1) ∙ get_or_push es e nothing (length (es ++ e ∷ []) - 1) (omega (arith, length_push es e))
 
-pub some_snoc : (es : List Event) (e : Event) → none_of (es ++ e ∷ []) ≡ false
+pub some_snoc : {A : Type 0} (es : List A) (e : A) → none_of (es ++ e ∷ []) ≡ false
 unfolding none_of
 some_snoc [] e = refl
 some_snoc (a ∷ es) e = refl

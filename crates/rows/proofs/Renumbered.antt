@@ -1,13 +1,14 @@
 -- Rows of events with other numbers: the same, where the numbers keep which of two events of one time was heard of first.
-use Rattle.std.proofs.Common.{◌≡◌, ℕ, zero, suc, ◌+◌, ◌-◌, ◌<◌, Bool, true, false, not, ◌&&◌, eqb, leb, List, [], ◌∷◌, ◌++◌, length, sym, refl, ap, ◌∙◌, ap₂, true≢false, not-suc-le-zero, arith}
+use Rattle.std.proofs.Common.{◌≡◌, ℕ, zero, suc, ◌+◌, ◌-◌, ◌<◌, Bool, true, false, not, ◌&&◌, eqb, leb, List, [], ◌∷◌, ◌++◌, length, sym, refl, ap, ◌∙◌, ap₂, true≢false, arith}
 use Rattle.std.proofs.lemmas.Bool.Decides.{nat_tests}
+use Rattle.std.proofs.lemmas.List.{length-map}
 use Rattle.timeline.specs.declared.events.Event.{Event}
 use Rattle.timeline.specs.Lists.{pick, or, any, those, each, none_of, flat}
-use Rattle.timeline.specs.Order.{before, sorted, nth, first_of, last_of}
+use Rattle.timeline.specs.Order.{nothing, before, sorted, nth, first_of, last_of}
 use Rattle.timeline.proofs.Lists.{All, all_map, all_any, all_append, all_flat, all_part, those_same, any_same, every_same}
 use Rattle.timeline.proofs.Each.{each_append, those_each, flat_same, flat_each, each_flat, any_each}
 use Rattle.timeline.proofs.Sorting.{isort_each}
-use Rattle.timeline.proofs.Order.{sorted_is, all_sorted}
+use Rattle.timeline.proofs.Order.{sorted_is, all_sorted, nth_is, all_nth}
 use Rattle.patterns.specs.Patterns.{Test, Step, field, other_side, holds, fits_step}
 use Rattle.rows.specs.Rows.{between, goes_on, rows, row_before, told_before, put_row, in_order}
 use Rattle.rows.specs.Finding.{forbidden}
@@ -15,6 +16,7 @@ use Rattle.rows.specs.Fitting.{Among}
 use Rattle.rows.specs.Sorted.{renumbered, Renumbered}
 use Rattle.rows.proofs.Order.{in_order_is}
 use Rattle.rows.proofs.Reach.{some_snoc}
+use Rattle.rows.proofs.Eaches.{each_is, at_each}
 use Rattle.rows.proofs.Among.{all_among}
 
 module _ (number : ℕ → ℕ) where
@@ -22,16 +24,11 @@ module _ (number : ℕ → ℕ) where
   re = renumbered number
 
   length_re : (es : List Event) → length (each re es) ≡ length es
-  unfolding each
-  length_re [] = refl
-  length_re (e ∷ es) = ap suc (length_re es)
+  length_re es = ap length (each_is re es) ∙ length-map es re
 
   -- at a place that there is
   nth_re : (es : List Event) (k : ℕ) → k < length es → nth (each re es) k ≡ re (nth es k)
-  unfolding each nth
-  nth_re [] k h = absurd (not-suc-le-zero h)
-  nth_re (e ∷ es) zero h = refl
-  nth_re (e ∷ es) (suc k) h = nth_re es k (omega arith)
+  nth_re es k h = at_each re es k nothing h ∙ ap re (sym (nth_is es k))
 
   -- and at any, but for the number
   field_re : (es : List Event) (k what : ℕ) → field (nth (each re es) k) what ≡ field (nth es k) what
@@ -66,12 +63,6 @@ module _ (number : ℕ → ℕ) where
 
   last_re : (es : List Event) → none_of es ≡ false → last_of (each re es) ≡ re (last_of es)
   last_re es h = rw (length_re es) (nth_re es (length es - 1) (length_some es h))
-
-  all_nth : (K : Event → Type 0) (es : List Event) → All K es → (k : ℕ) → k < length es → K (nth es k)
-  unfolding nth
-  all_nth K [] a k h = absurd (not-suc-le-zero h)
-  all_nth K (e ∷ es) a zero h = a.0
-  all_nth K (e ∷ es) a (suc k) h = all_nth K es a.1 k (omega arith)
 
   -- the events concerned, among which the order is kept
   module _ (K : Event → Type 0) (keeps : (a b : Event) → K a → K b → before (re a) (re b) ≡ before a b) where

@@ -1,30 +1,29 @@
 -- Events that rise, by their positions: what goes on behind a row of positions, and that longer rows end later.
 use Rattle.std.proofs.Common.{◌≡◌, ℕ, zero, suc, ◌-◌, ◌<◌, ◌≤◌, Bool, true, false, ◌&&◌, ◌⊎◌, List, [], ◌∷◌, ◌++◌, length, get_or, refl, inl, inr, arith, length-append}
+use Rattle.std.proofs.Math.Bool.{and-false}
+use Rattle.std.proofs.lemmas.List.{length_push, get_or_push}
 use Rattle.timeline.specs.declared.events.Event.{Event}
 use Rattle.timeline.specs.Lists.{any, those, each, none_of, run}
 use Rattle.timeline.specs.Order.{nth, before, first_of, last_of}
 use Rattle.timeline.proofs.Lists.{All, all_map, all_flat, all_any, all_those}
 use Rattle.timeline.proofs.Each.{each_append}
-use Rattle.timeline.proofs.Order.{before_asym, before_cross, before_irr}
+use Rattle.timeline.proofs.Order.{before_asym, before_cross, before_irr, all_nth}
 use Rattle.patterns.specs.Patterns.{Step, fits_step}
 use Rattle.rows.specs.Rows.{between, goes_on, rows}
 use Rattle.rows.specs.Finding.{forbidden, fits}
 use Rattle.rows.specs.SearchLaws.{Ahead, Rises}
-use Rattle.rows.proofs.Picks.{and_false}
 use Rattle.rows.proofs.Positions.{nth_each, any_between}
-use Rattle.rows.proofs.Reach.{last_snoc}
+use Rattle.rows.proofs.Reach.{some_snoc, last_snoc}
 
-ahead_nth : (e : Event) (h : List Event) (j : ℕ) → Ahead e h → j < length h → before e (nth h j) ≡ true
-unfolding nth
-ahead_nth e [] j a l = absurd (omega arith)
-ahead_nth e (f ∷ h) zero a l = a.0
-ahead_nth e (f ∷ h) (suc j) a l = ahead_nth e h j a.1 (omega arith)
+pub ahead_all : (x : Event) (h : List Event) → Ahead x h → All (λ e. before x e ≡ true) h
+ahead_all x [] a = tt
+ahead_all x (f ∷ h) a = (a.0, ahead_all x h a.1)
 
 pub nth_before : (h : List Event) → Rises h → (i j : ℕ) → i < j → j < length h → before (nth h i) (nth h j) ≡ true
 unfolding nth
 nth_before [] r i j k l = absurd (omega arith)
 nth_before (e ∷ h) r i zero k l = absurd (omega arith)
-nth_before (e ∷ h) r zero (suc j) k l = ahead_nth e h j r.0 (omega arith)
+nth_before (e ∷ h) r zero (suc j) k l = all_nth (λ f. before e f ≡ true) h (ahead_all e h r.0) j (omega arith)
 nth_before (e ∷ h) r (suc i) (suc j) k l = nth_before h r.1 i j (omega arith) (omega arith)
 
 pub not_before : (h : List Event) → Rises h → (i j : ℕ) → j ≤ i → i < length h → before (nth h i) (nth h j) ≡ false
@@ -32,18 +31,6 @@ not_before h r i j k l = elim (cases j i k) [ inl e ↦ rw e (before_irr (nth h 
   where
     cases : (a b : ℕ) → a ≤ b → (a ≡ b) ⊎ (a < b)
     cases a b h = grind arith
-
-none_of_snoc : {A : Type 0} (xs : List A) (x : A) → none_of (xs ++ x ∷ []) ≡ false
-unfolding none_of
-none_of_snoc [] x = refl
-none_of_snoc (y ∷ xs) x = refl
-
-getD_snoc : (ps : List ℕ) (q : ℕ) → get_or (ps ++ q ∷ []) (length (ps ++ q ∷ []) - 1) 0 ≡ q
-getD_snoc ps q = let n : length (ps ++ q ∷ []) - 1 ≡ length ps = omega (arith, length-append ps (q ∷ [])) in rw n (go ps q)
-  where
-    go : (ps : List ℕ) (q : ℕ) → get_or (ps ++ q ∷ []) (length ps) 0 ≡ q
-    go [] q = refl
-    go (x ∷ ps) q = go ps q
 
 module _ (h : List Event) where
   pub snoc_each : (ps : List ℕ) (q : ℕ) → each (nth h) (ps ++ q ∷ []) ≡ each (nth h) ps ++ nth h q ∷ []
@@ -57,7 +44,7 @@ module _ (h : List Event) where
   first_each ps q = nth_each h (ps ++ q ∷ []) 0 (omega (arith, length-append ps (q ∷ [])))
 
   none_each : (ps : List ℕ) (q : ℕ) → none_of (each (nth h) (ps ++ q ∷ [])) ≡ false
-  none_each ps q = rw (snoc_each ps q) (none_of_snoc (each (nth h) ps) (nth h q))
+  none_each ps q = rw (snoc_each ps q) (some_snoc (each (nth h) ps) (nth h q))
 
 module _ (h : List Event) (rise : Rises h) (w : ℕ) where
   -- with nothing before it, an event goes on if it fits
@@ -71,7 +58,7 @@ module _ (h : List Event) (rise : Rises h) (w : ℕ) where
       any_between (λ e. between (nth h q) (nth h i) e && f e) (λ j. f (nth h j)) h (suc q) i (omega arith) (omega arith)
       (λ j x y. rw (not_before h rise q j (omega arith) (omega arith)) refl)
       (λ j x y. rw (nth_before h rise q j (omega arith) (omega arith), nth_before h rise j i (omega arith) (omega arith)) refl)
-      (λ j x y. rw (not_before h rise j i (omega arith) (omega arith), and_false (before (nth h q) (nth h j))) refl)
+      (λ j x y. rw (not_before h rise j i (omega arith) (omega arith), and-false (before (nth h q) (nth h j))) refl)
 
   -- behind a row of positions that ends with q
   pub goes_next : (ps : List ℕ) (q : ℕ) (s : Step) (i : ℕ) → q < i → i < length h → goes_on h w (each (nth h) (ps ++ q ∷ [])) s (nth h i) ≡ fits h w s (ps ++ q ∷ []) i
@@ -79,10 +66,10 @@ module _ (h : List Event) (rise : Rises h) (w : ℕ) where
   goes_next ps q s i k l =
       let es = each (nth h) (ps ++ q ∷ []) in
       let a : none_of es ≡ false = none_each h ps q in
-      let b : none_of (ps ++ q ∷ []) ≡ false = none_of_snoc ps q in
+      let b : none_of (ps ++ q ∷ []) ≡ false = some_snoc ps q in
       let d : last_of es ≡ nth h q = last_each h ps q in
       let f : first_of es ≡ nth h (get_or (ps ++ q ∷ []) 0 0) = first_each h ps q in
-      let g : get_or (ps ++ q ∷ []) (length (ps ++ q ∷ []) - 1) 0 ≡ q = getD_snoc ps q in
+      let g : get_or (ps ++ q ∷ []) (length (ps ++ q ∷ []) - 1) 0 ≡ q = get_or_push ps q 0 (length (ps ++ q ∷ []) - 1) (omega (arith, length_push ps q)) in
       let m : before (nth h q) (nth h i) ≡ true = nth_before h rise q i k l in
       let n = between_any (forbidden es s) q i k l in
       rw (a, b, d, f, g, m, n) refl
@@ -93,10 +80,10 @@ module _ (h : List Event) (rise : Rises h) (w : ℕ) where
       let a : none_of es ≡ false = none_each h ps q in
       let d : last_of es ≡ nth h q = last_each h ps q in
       let m : before (nth h q) (nth h i) ≡ false = not_before h rise q i k l in
-      rw (a, d, m) (and_false (fits_step es (nth h i) s.kind s.tests))
+      rw (a, d, m) (and-false (fits_step es (nth h i) s.kind s.tests))
 
   goes_later : (es : List Event) (x : Event) (s : Step) (e : Event) → goes_on h w (es ++ x ∷ []) s e ≡ true → before x e ≡ true
-  goes_later es x s e g = let a = last_snoc es x in let b = none_of_snoc es x in let g₁ = rw (b, a) at g in grind arith
+  goes_later es x s e g = let a = last_snoc es x in let b = some_snoc es x in let g₁ = rw (b, a) at g in grind arith
 
   -- what holds of the rows behind every later event holds of all rows
   behind_all : (s : Step) (ss : List Step) (es : List Event) (x : Event) (Q : List Event → Type 0)

@@ -1,9 +1,10 @@
 -- Positions of the last but one event from which something forbidden lies before the last event may not be chosen.
-use Rattle.std.proofs.Common.{◌≡◌, ℕ, zero, suc, ◌+◌, ◌-◌, ◌<◌, ◌≤◌, Bool, true, false, eqb, ltb, ◌≢◌, List, [], ◌∷◌, length, get_or, take, drop, set, sym, refl, ap, ◌∙◌, arith, length-drop, length-take, get_or-drop, get_or-take}
+use Rattle.std.proofs.Common.{◌≡◌, ℕ, suc, ◌+◌, ◌-◌, ◌<◌, ◌≤◌, Bool, true, false, ltb, ◌≢◌, List, length, get_or, take, drop, set, sym, refl, ap, ◌∙◌, arith, length-drop, length-take, get_or-drop, get_or-take}
+use Rattle.std.proofs.Math.Bool.{and-false}
 use Rattle.std.proofs.lemmas.List.{get_or-set_same, get_or-set_other, length-set}
-use Rattle.std.proofs.lemmas.Bool.{eqb-true, eqb-false, ltb-true, ltb-false}
+use Rattle.std.proofs.lemmas.Bool.{ne_eqb, ltb-true, ltb-false}
 use Rattle.timeline.specs.declared.events.Event.{Event}
-use Rattle.timeline.specs.Lists.{or, any, each, run, none_of}
+use Rattle.timeline.specs.Lists.{each, none_of}
 use Rattle.timeline.specs.Order.{nth}
 use Rattle.timeline.proofs.Lists.{clash}
 use Rattle.patterns.specs.Patterns.{Step}
@@ -11,35 +12,18 @@ use Rattle.patterns.specs.Kept.{kept_step, kept_count, kept_pattern}
 use Rattle.patterns.proofs.Steps.{steps_six}
 use Rattle.rows.specs.Search.{Barren, chosen}
 use Rattle.rows.specs.Finding.{forbidden, fits, row_ok, row_lo, space}
-use Rattle.rows.proofs.Picks.{and_false}
+use Rattle.rows.proofs.Positions.{any_at}
+use Rattle.rows.proofs.Passing.{none_of_is}
 use Rattle.rows.proofs.Chosen.{chosen_set}
 use Rattle.rows.proofs.Pruning.{Starts}
 use Rattle.rows.proofs.LevelOk.{ok_last_not}
-
-or_yes : (b : Bool) → or b true ≡ true
-or_yes true = refl
-or_yes false = refl
-
-any_one : (f : ℕ → Bool) (a n r : ℕ) → a ≤ r → r < a + n → f r ≡ true → any f (run a n) ≡ true
-unfolding any run
-any_one f a zero r l k e = absurd (omega arith)
-any_one f a (suc n) r l k e = go (λ h. any_one f (suc a) n r h (omega arith) e) (eqb r a) refl
-  where
-    go : (suc a ≤ r → any f (run (suc a) n) ≡ true) → (b : Bool) → eqb r a ≡ b → or (f a) (any f (run (suc a) n)) ≡ true
-    go later true q = let p = eqb-true r a q in let h : f a ≡ true = rw p at e in rw h refl
-    go later false q = let n = eqb-false r a q in rw (later (omega arith)) (or_yes (f a))
 
 -- something forbidden lies between the place before and this one
 broken_fits : (h : List Event) (w : ℕ) (s : Step) (ps : List ℕ) (p i r : ℕ) → none_of ps ≡ false → get_or ps (length ps - 1) 0 ≡ i → i < r → r < p → forbidden (each (nth h) ps) s (nth h r) ≡ true → false ≡ fits h w s ps p
 unfolding fits
 broken_fits h w s ps p i r n e l k f =
-    let a = any_one (λ j. forbidden (each (nth h) ps) s (nth h j)) (suc i) (p - suc i) r (omega arith) (omega arith) f in
-    rw (n, e, a, and_false, and_false) refl
-
-not_none : (xs : List ℕ) → 0 < length xs → none_of xs ≡ false
-unfolding none_of
-not_none [] l = absurd (omega arith)
-not_none (x ∷ xs) l = refl
+    let a = any_at (λ j. forbidden (each (nth h) ps) s (nth h j)) (suc i) (p - suc i) r (omega arith) (omega arith) f in
+    rw (n, e, a, and-false, and-false) refl
 
 module _ (h : List Event) (c at : List ℕ) (d : ℕ) (la : length at ≡ 6) (few : d < kept_count c) (z : d ≡ 0 → ⊥) (end : d + 1 ≡ kept_count c) where
   unbroken : (r i : ℕ) → i < r → r < get_or at 0 0 → ((es : List Event) → forbidden es (kept_step c d) (nth h r) ≡ true)
@@ -56,7 +40,7 @@ module _ (h : List Event) (c at : List ℕ) (d : ℕ) (la : length at ≡ 6) (fe
       let q : 1 + (d - 1) ≡ d = omega arith in
       let last : get_or ps (length ps - 1) 0 ≡ i =
       ap (λ n. get_or ps n 0) m ∙ get_or-take d (drop 1 at₁) (d - 1) 0 (omega arith) ∙ get_or-drop 1 at₁ (d - 1) 0 ∙ ap (λ n. get_or at₁ n 0) q ∙ here in
-      let b = broken_fits h (kept_pattern c).within (kept_step c d) ps (get_or at₁ 0 0) i r (not_none ps (omega arith)) last l (omega arith) (f (each (nth h) ps)) in
+      let b = broken_fits h (kept_pattern c).within (kept_step c d) ps (get_or at₁ 0 0) i r (none_of_is ps ∙ ne_eqb (length ps) 0 (λ e. omega arith)) last l (omega arith) (f (each (nth h) ps)) in
       let o = ok_last_not h c at₁ d z few (omega (arith, length-set at d i)) end b in
       sym (rw (chosen_set at d d i (omega arith), here) at o)
 

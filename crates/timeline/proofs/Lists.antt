@@ -1,5 +1,6 @@
 -- Lists: what holds of each element and of each pair, filters, flattened lists.
 use Rattle.std.proofs.Common.{◌≡◌, ℕ, zero, suc, ◌<◌, Bool, true, false, ◌&&◌, List, [], ◌∷◌, ◌++◌, length, get_or, drop, sym, refl, ap, ◌∙◌, true≢false, not-suc-le-zero, arith}
+use Rattle.std.proofs.lemmas.List.{drop_at}
 use Rattle.timeline.specs.Lists.{pick, every, any, those, flat}
 
 -- a test that both holds and fails
@@ -127,10 +128,9 @@ module _ {A : Type 0} where
   those_those f g (x ∷ xs) = let ih = those_those f g xs in grind arith
 
   pub drop_front : (xs ys : List A) → drop (length xs) (xs ++ ys) ≡ ys
-  drop_front [] ys = refl
-  drop_front (x ∷ xs) ys = drop_front xs ys
+  drop_front xs ys = drop_at xs ys (length xs) refl
 
-  all_at : (P : A → Type 0) (xs : List A) (d : A) → All P xs → (i : ℕ) → i < length xs → P (get_or xs i d)
+  pub all_at : (P : A → Type 0) (xs : List A) (d : A) → All P xs → (i : ℕ) → i < length xs → P (get_or xs i d)
   all_at P [] d a i h = absurd (not-suc-le-zero h)
   all_at P (x ∷ xs) d a zero h = a.0
   all_at P (x ∷ xs) d a (suc i) h = all_at P xs d a.1 i (omega arith)
