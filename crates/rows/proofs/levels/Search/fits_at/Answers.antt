@@ -7,27 +7,23 @@ use Rattle.rows.proofs.levels.Search.fits_at.Goals as goal
 
 pub returns-then-not-fits : goal.returns-then-not-fits
 returns-then-not-fits c =
-    tried_not c.args.self.now.held (kept_pattern c.args.self.now.kept.words.now).within (kept_step c.args.self.now.kept.words.now c.args.step) c.args.choice.now.at c.args.choice.now.row c.args.choice.now.depth c.args.step c.args.depth
-    (search rules) (search rules) c.requires.along c.requires.here c.requires.before (omega (arith, steps_six c.args.self.now.kept.words.now, c.requires.few))
+    tried_not _ _ _ _ _ _ _ _ (search rules) (search rules) c.requires.along c.requires.here c.requires.before (omega (arith, steps_six c.args.self.now.kept.words.now, c.requires.few))
     (sym c.if-not-fits.ensures)
 
 pub returns-then-step-eq0 : goal.returns-then-step-eq0
 returns-then-step-eq0 c =
-    tried_first c.args.self.now.held (kept_pattern c.args.self.now.kept.words.now).within (kept_step c.args.self.now.kept.words.now c.args.step) c.args.choice.now.at c.args.choice.now.row c.args.choice.now.depth c.args.step c.args.depth
-    (search rules) (search rules) c.requires.along c.requires.here c.requires.before (omega (arith, steps_six c.args.self.now.kept.words.now, c.requires.few))
+    tried_first _ _ _ _ _ _ _ _ (search rules) (search rules) c.requires.along c.requires.here c.requires.before (omega (arith, steps_six c.args.self.now.kept.words.now, c.requires.few))
     (sym c.if-not-fits.ensures) c.if-step-eq0.true
 
 pub returns-then-not-is_within : goal.returns-then-not-is_within
 returns-then-not-is_within c =
-    tried_late c.args.self.now.held (kept_pattern c.args.self.now.kept.words.now).within (kept_step c.args.self.now.kept.words.now c.args.step) c.args.choice.now.at c.args.choice.now.row c.args.choice.now.depth c.args.step c.args.depth
-    (search rules) (search rules) c.requires.along c.requires.here c.requires.before (omega (arith, steps_six c.args.self.now.kept.words.now, c.requires.few))
+    tried_late _ _ _ _ _ _ _ _ (search rules) (search rules) c.requires.along c.requires.here c.requires.before (omega (arith, steps_six c.args.self.now.kept.words.now, c.requires.few))
     (sym c.if-not-fits.ensures) c.if-step-eq0.false
     (sym (c.if-not-is_within.ensures ∙ ap (λ n. leb (get_or c.args.choice.now.row c.args.depth nothing).time ((get_or (take (c.args.step + 1 - 1) (drop 1 c.args.choice.now.row)) 0 nothing).time + n)) c.within.ensures))
 
 pub returns : goal.returns
 returns c =
     ap not c.is_broken.ensures
-    ∙ tried_else c.args.self.now.held (kept_pattern c.args.self.now.kept.words.now).within (kept_step c.args.self.now.kept.words.now c.args.step) c.args.choice.now.at c.args.choice.now.row c.args.choice.now.depth c.args.step c.args.depth
-    (search rules) (search rules) c.requires.along c.requires.here c.requires.before (omega (arith, steps_six c.args.self.now.kept.words.now, c.requires.few))
+    ∙ tried_else _ _ _ _ _ _ _ _ (search rules) (search rules) c.requires.along c.requires.here c.requires.before (omega (arith, steps_six c.args.self.now.kept.words.now, c.requires.few))
     (sym c.if-not-fits.ensures) c.if-step-eq0.false
     (sym (c.if-not-is_within.ensures ∙ ap (λ n. leb (get_or c.args.choice.now.row c.args.depth nothing).time ((get_or (take (c.args.step + 1 - 1) (drop 1 c.args.choice.now.row)) 0 nothing).time + n)) c.within.ensures))
