@@ -6,7 +6,7 @@ use Rattle.rows.proofs.held.Held.between.Goals as goal
 
 pub returns-clause-front : goal.returns-clause-front
 returns-clause-front c = λ i l.
-    part_front c.self.inside.front.now c.self.inside.back.now c.args.from c.args.end c.min.result c.min-2.result i c.min.ensures c.min-2.ensures l
+    part_front _ _ _ _ c.min.result c.min-2.result i c.min.ensures c.min-2.ensures l
     ∙ ap (λ h. nth h (c.args.from + i)) c.self.view_is
 
 pub returns-clause-back : goal.returns-clause-back

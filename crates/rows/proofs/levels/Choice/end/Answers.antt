@@ -3,7 +3,7 @@ use Rattle.rows.proofs.LevelOk.{hi_none, hi_deep}
 use Rattle.rows.proofs.levels.Choice.end.Goals as goal
 
 pub returns-then-self-eq0 : goal.returns-then-self-eq0
-returns-then-self-eq0 c = hi_none c.args.upto c.args.self.now.at c.args.self.now.depth c.if-self-eq0.true
+returns-then-self-eq0 c = hi_none _ _ _ c.if-self-eq0.true
 
 pub returns-else-self-eq0 : goal.returns-else-self-eq0
-returns-else-self-eq0 c = hi_deep c.args.upto c.args.self.now.at c.args.self.now.depth c.if-self-eq0.false (omega (arith, c.requires))
+returns-else-self-eq0 c = hi_deep _ _ _ c.if-self-eq0.false (omega (arith, c.requires))

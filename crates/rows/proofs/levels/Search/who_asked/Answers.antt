@@ -8,7 +8,7 @@ returns-in-Some c =
     let at : length c.args.choice.now.at ≡ 6 = search rules in
     let row : length c.args.choice.now.row ≡ 6 = search rules in
     λ i t l.
-    own_not c.args.self.now.held c.args.self.now.kept.words.now c.args.choice.now.at c.args.choice.now.row c.args.choice.now.depth at row c.requires.few
+    own_not _ _ _ _ _ at row c.requires.few
     c.if-depth-eq0.false c.requires.along i (c.in-Some.ensures.needed (nth c.args.self.now.held i) t)
 
 pub returns : goal.returns
@@ -16,5 +16,5 @@ returns c =
     let at : length c.args.choice.now.at ≡ 6 = search rules in
     let row : length c.args.choice.now.row ≡ 6 = search rules in
     λ i t l.
-    last_not c.args.self.now.held c.args.self.now.kept.words.now c.args.choice.now.at c.args.choice.now.row c.args.choice.now.depth at row c.requires.few
+    last_not _ _ _ _ _ at row c.requires.few
     c.if-depth-eq0.false c.requires.along i (c.if-depth-steps.false ∙ c.steps.ensures) (c.if-not-asks_same_who.ensures.needed refl) t
