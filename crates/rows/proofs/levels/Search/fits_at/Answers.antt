@@ -1,6 +1,5 @@
 use Rattle.std.proofs.Common.{◌+◌, ◌-◌, not, leb, get_or, take, drop, sym, ap, ◌∙◌, rules, arith}
 use Rattle.timeline.specs.Order.{nothing}
-use Rattle.patterns.specs.Kept.{kept_step, kept_pattern}
 use Rattle.patterns.proofs.Steps.{steps_six}
 use Rattle.rows.proofs.Tried.{tried_not, tried_first, tried_late, tried_else}
 use Rattle.rows.proofs.levels.Search.fits_at.Goals as goal
