@@ -6,13 +6,12 @@ use Rattle.std.proofs.lemmas.Bool.Decides.{nat_tests}
 use Rattle.timeline.specs.declared.events.Event.{Event}
 use Rattle.timeline.specs.Lists.{pick}
 use Rattle.timeline.specs.Order.{latest}
+use Rattle.timeline.proofs.Order.{latest_snoc}
 use Rattle.patterns.specs.Patterns.{Pattern}
 use Rattle.rows.specs.Known.{too_late, with_number, counted_after, counted}
 
 pub latest_push : (es : List Event) (e : Event) → latest (es ++ e ∷ []) ≡ max (latest es) e.time
-unfolding latest
-latest_push [] e = grind (arith, nat_tests)
-latest_push (f ∷ es) e = let ih = latest_push es e in grind (arith, nat_tests)
+latest_push es e = let h = latest_snoc es e in grind (arith, nat_tests)
 
 module _ (fs : List Event) (i : ℕ) (es : List Event) (p : Pattern) where
   -- what counts after those that have counted is what counts of all

@@ -1,5 +1,5 @@
 -- A candidate of another who than a test asks for may not be chosen.
-use Rattle.std.proofs.Common.{◌≡◌, ℕ, ◌+◌, ◌-◌, ◌<◌, Bool, true, false, eqb, ◌≢◌, List, length, get_or, take, drop, set, sym, refl, ap, ◌∙◌, ap₂, arith, length-drop, length-take, get_or-drop, get_or-take}
+use Rattle.std.proofs.Common.{◌≡◌, ℕ, ◌+◌, ◌-◌, ◌<◌, false, eqb, ◌≢◌, List, length, get_or, take, drop, set, sym, refl, ap, ◌∙◌, ap₂, arith, length-drop, length-take, get_or-drop, get_or-take}
 use Rattle.std.proofs.lemmas.List.{get_or-set_same, get_or-set_other, length-set}
 use Rattle.timeline.specs.declared.events.Event.{Event}
 use Rattle.timeline.specs.Lists.{each}
@@ -15,14 +15,6 @@ use Rattle.rows.proofs.Positions.{nth_each}
 use Rattle.rows.proofs.Chosen.{chosen_set}
 use Rattle.rows.proofs.Fitting.{fits_not}
 use Rattle.rows.proofs.LevelOk.{along_stands, ok_not, ok_last_not}
-
--- of a who or not
-pub either_who : {Z : Type 0} (x w : ℕ) → (eqb x w ≡ true → Z) → (eqb x w ≡ false → Z) → Z
-either_who {Z = Z} x w f g = go (eqb x w) refl
-  where
-    go : (b : Bool) → eqb x w ≡ b → Z
-    go true q = f q
-    go false q = g q
 
 module _ (h : List Event) (c at : List ℕ) (row : List Event) (d : ℕ) (la : length at ≡ 6) (lr : length row ≡ 6) (few : d < kept_count c) (z : d ≡ 0 → ⊥)
     (al : Along h at row d) (i : ℕ) where

@@ -1,5 +1,5 @@
 -- Events that rise, by their positions: what goes on behind a row of positions, and that longer rows end later.
-use Rattle.std.proofs.Common.{◌≡◌, ℕ, zero, suc, ◌-◌, ◌<◌, ◌≤◌, Bool, true, false, ◌&&◌, ◌⊎◌, List, [], ◌∷◌, ◌++◌, length, get_or, refl, inl, inr, arith, length-append}
+use Rattle.std.proofs.Common.{◌≡◌, ℕ, zero, suc, ◌-◌, ◌<◌, ◌≤◌, Bool, true, false, ◌&&◌, List, [], ◌∷◌, ◌++◌, length, get_or, refl, inl, inr, eq-or-lt_of_le, arith, length-append}
 use Rattle.std.proofs.Math.Bool.{and-false}
 use Rattle.std.proofs.lemmas.List.{length_push, get_or_push}
 use Rattle.timeline.specs.declared.events.Event.{Event}
@@ -27,10 +27,7 @@ nth_before (e ∷ h) r zero (suc j) k l = all_nth (λ f. before e f ≡ true) h 
 nth_before (e ∷ h) r (suc i) (suc j) k l = nth_before h r.1 i j (omega arith) (omega arith)
 
 pub not_before : (h : List Event) → Rises h → (i j : ℕ) → j ≤ i → i < length h → before (nth h i) (nth h j) ≡ false
-not_before h r i j k l = elim (cases j i k) [ inl e ↦ rw e (before_irr (nth h i)) | inr m ↦ before_asym (nth h j) (nth h i) (nth_before h r j i m l) ]
-  where
-    cases : (a b : ℕ) → a ≤ b → (a ≡ b) ⊎ (a < b)
-    cases a b h = grind arith
+not_before h r i j k l = elim (eq-or-lt_of_le k) [ inl e ↦ rw e (before_irr (nth h i)) | inr m ↦ before_asym (nth h j) (nth h i) (nth_before h r j i m l) ]
 
 module _ (h : List Event) where
   pub snoc_each : (ps : List ℕ) (q : ℕ) → each (nth h) (ps ++ q ∷ []) ≡ each (nth h) ps ++ nth h q ∷ []
