@@ -1,3 +1,4 @@
+pub mod Asking
 pub mod Bytes
 pub mod Complaints
 pub mod Events

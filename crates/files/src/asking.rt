@@ -1,6 +1,9 @@
 // What a program is called with: a pattern (a file of numbers, a file in which it is typed, or the text itself), and what stands behind it.
-ghost use Rattle.std.specs.Prelude.{IfErr};
+ghost use Rattle.std.specs.Prelude.{◌≡◌, IfErr, List, [], ◌∷◌, String, Option, MatchOption};
+ghost use Rattle.std.specs.Global.{Global};
+ghost use Rattle.std.specs.Vec.Iter.{into_iter_items};
 ghost use Rattle.files.specs.Failures.{OfReading};
+ghost use Rattle.files.specs.Asking.{SaysSource, SaysBoth};
 
 use crate::complaining::complaint;
 use crate::failing::{Failed, read_file, read_pattern};
@@ -32,13 +35,22 @@ fn read_typed(rt: &HostRuntime, name: &str, text: &[u8]) -> Result<Vec<u64>, Fai
     }
 }
 
+// The next word, where there is one.
+fn next_word(args: &mut Args) -> Option<String>
+    ensures { MatchOption result (into_iter_items args.old ≡ []) (λ w. into_iter_items args.old ≡ w ∷ into_iter_items args.new) }
+{
+    args.next()
+}
+
 impl PatternSource {
     // What the next words of a command line say; None where they say none.
-    pub fn next(args: &mut Args) -> Option<PatternSource> {
-        let word = args.next()?;
+    pub fn next(args: &mut Args) -> Option<PatternSource>
+        ensures { SaysSource (into_iter_items args.old) result (into_iter_items args.new) }
+    {
+        let word = next_word(args)?;
         match word.as_str() {
-            "-t" => Some(PatternSource::TextFile(args.next()?)),
-            "-e" => Some(PatternSource::Text(args.next()?)),
+            "-t" => Some(PatternSource::TextFile(next_word(args)?)),
+            "-e" => Some(PatternSource::Text(next_word(args)?)),
             _ => Some(PatternSource::Numbers(word)),
         }
     }
@@ -68,12 +80,18 @@ pub trait Words: Drop {
     // What stands behind the pattern, as a usage names it.
     const BEHIND_PATTERN: &'static str;
 
+    // What words say, and which are left.
+    ghost says: { List (String Global) → Option Self → List (String Global) → Type 0 };
+
     // What the next words say; None where they are too few.
-    fn next_of(args: &mut Args) -> Option<Self>;
+    fn next_of(args: &mut Args) -> Option<Self>
+        ensures { says (into_iter_items args.old) result (into_iter_items args.new) };
 }
 
 impl Words for PatternSource {
     const BEHIND_PATTERN: &'static str = "";
+
+    ghost says = { SaysSource };
 
     fn next_of(args: &mut Args) -> Option<PatternSource> {
         PatternSource::next(args)
@@ -83,10 +101,12 @@ impl Words for PatternSource {
 impl Words for PatternAndEvents {
     const BEHIND_PATTERN: &'static str = " EVENTS";
 
+    ghost says = { SaysBoth };
+
     fn next_of(args: &mut Args) -> Option<PatternAndEvents> {
         Some(PatternAndEvents {
             pattern: PatternSource::next(args)?,
-            events: args.next()?,
+            events: next_word(args)?,
         })
     }
 }
