@@ -3,6 +3,7 @@ pub mod Back
 pub mod Words
 mod Asking
 mod Laying
+mod Several
 mod Parts
 mod May
 mod Wholes

@@ -14,7 +14,7 @@ use Rattle.patterns.proofs.Wholes.{length_step_cells}
 
 pub pattern_cells_long : (p : Pattern) → length (pattern_cells p) ≡ 405
 unfolding pattern_cells
-pattern_cells_long p = ap (λ n. suc (suc (suc n))) (padded_long 67 6 step_cells length_step_cells 6 p.steps)
+pattern_cells_long p = ap (λ n. suc (suc (suc n))) (padded_long 67 step_cells length_step_cells 6 p.steps)
 
 abbrev small : ℕ → Bool
 small m = ltb m 18446744073709551616

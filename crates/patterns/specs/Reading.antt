@@ -1,6 +1,7 @@
--- A pattern's parts by their places in a row of numbers, where each ends, and what reading one answers.
+-- What stands first in a row of numbers, a part of a pattern, and what is behind it; and what reading one answers.
 -- Assumes nothing: these are definitions.
-use Rattle.std.specs.Prelude.{◌≡◌, ℕ, ◌+◌, ◌*◌, ◌≤◌, Bool, true, false, ◌&&◌, List, length, drop, Some, None, Ok, Err, Option, Result, ◌≢◌, nat_le, nat_lt, slice_index}
+use Rattle.std.specs.Prelude.{◌≡◌, ℕ, zero, suc, ◌*◌, Bool, true, false, ◌&&◌, List, [], ◌∷◌, length, drop, Some, None, Ok, Err, Option, Result, ◌≢◌, nat_le, nat_lt, slice_index}
+use Rattle.std.specs.Borrow.{Bor}
 use Rattle.timeline.specs.Lists.{every}
 use Rattle.patterns.specs.Patterns.{Test, Never, Step}
 use Rattle.patterns.specs.Limits.{a_test, some_tests, a_pattern}
@@ -11,33 +12,37 @@ use Rattle.patterns.specs.declared.comparing.Comparison.{Comparison}
 use Rattle.patterns.specs.declared.keeping.Refusal.{Refusal}
 use Rattle.patterns.specs.declared.keeping.Refusal.TheVariants.{NoPattern, NotAsLong}
 
--- tests: their count and they
-abbrev pub tests_at : List ℕ → ℕ → List Test
-tests_at row pos = tests_in (slice_index row pos) (drop (pos + 1) row)
+-- the first number of a row, 0 where it is at its end, and what is behind it
+abbrev pub First : List ℕ → ℕ × Bor (List ℕ) → Type 0
+First row r = (r.0 ≡ slice_index row 0) × (r.1.now ≡ drop 1 row)
 
-abbrev pub tests_end : List ℕ → ℕ → ℕ
-tests_end row pos = pos + 1 + 5 * slice_index row pos
+-- the tests that a row begins with, their count in front, and what is behind them
+abbrev pub first_tests : List ℕ → List Test
+first_tests row = tests_in (slice_index row 0) (drop 1 row)
+
+abbrev pub behind_tests : List ℕ → List ℕ
+behind_tests row = drop (5 * slice_index row 0) (drop 1 row)
 
 -- a never: its kind and its tests
-abbrev pub never_at : List ℕ → ℕ → Never
-never_at row pos = record { kind = slice_index row pos; tests = tests_at row (pos + 1) }
+abbrev pub first_never : List ℕ → Never
+first_never row = record { kind = slice_index row 0; tests = first_tests (drop 1 row) }
 
-abbrev pub never_end : List ℕ → ℕ → ℕ
-never_end row pos = tests_end row (pos + 1)
+abbrev pub behind_never : List ℕ → List ℕ
+behind_never row = behind_tests (drop 1 row)
 
 -- nevers: their count and they
-abbrev pub nevers_at : List ℕ → ℕ → List Never
-nevers_at row pos = nevers_in (slice_index row pos) (drop (pos + 1) row)
+abbrev pub first_nevers : List ℕ → List Never
+first_nevers row = nevers_in (slice_index row 0) (drop 1 row)
 
-abbrev pub nevers_end : List ℕ → ℕ → ℕ
-nevers_end row pos = pos + 1 + nevers_long (slice_index row pos) (drop (pos + 1) row)
+abbrev pub behind_nevers : List ℕ → List ℕ
+behind_nevers row = drop (nevers_long (slice_index row 0) (drop 1 row)) (drop 1 row)
 
 -- a step: its kind, its tests, its nevers
-abbrev pub step_at : List ℕ → ℕ → Step
-step_at row pos = record { kind = slice_index row pos; tests = tests_at row (pos + 1); never = nevers_at row (tests_end row (pos + 1)) }
+abbrev pub first_step : List ℕ → Step
+first_step row = record { kind = slice_index row 0; tests = first_tests (drop 1 row); never = first_nevers (behind_never row) }
 
-abbrev pub step_end : List ℕ → ℕ → ℕ
-step_end row pos = nevers_end row (tests_end row (pos + 1))
+abbrev pub behind_step : List ℕ → List ℕ
+behind_step row = behind_nevers (behind_never row)
 
 -- which nevers step n may have
 abbrev pub a_never : ℕ → Never → Bool
@@ -60,15 +65,44 @@ abbrev pub ReadsTest : ℕ → Test → Option Comparison → Type 0
 ReadsTest n t None = a_test n t ≡ false
 ReadsTest n t (Some c) = (a_test n t ≡ true) × (test_of c ≡ t)
 
--- what reading a part answers: that it may not be; or where it ends, with its words laid down
-abbrev pub Laid : Bool → ℕ → ℕ → List ℕ → List ℕ → Option ℕ → Type 0
-Laid ok end most whole after None = ok ≡ false
-Laid ok end most whole after (Some p) = (ok ≡ true) × (p ≡ end) × (p ≤ most) × (after ≡ whole)
+-- what reading a part answers: that it may not be; or it, and what is behind it
+abbrev pub Reads : {T : Type 0} → Bool → T → List ℕ → Option (T × Bor (List ℕ)) → Type 0
+Reads ok part behind None = ok ≡ false
+Reads ok part behind (Some r) = (ok ≡ true) × (r.0 ≡ part) × (r.1.now ≡ behind)
 
 -- the same of a whole pattern
-abbrev pub LaidAll : Bool → List ℕ → List ℕ → Option (Unit {0}) → Type 0
-LaidAll ok whole after None = ok ≡ false
-LaidAll ok whole after (Some done) = (ok ≡ true) × (after ≡ whole)
+abbrev pub ReadsWhole : Bool → List ℕ → Option (List ℕ) → Type 0
+ReadsWhole ok words None = ok ≡ false
+ReadsWhole ok words (Some r) = (ok ≡ true) × (r ≡ words)
+
+-- a kind of part, of the row that begins with one: whether it may be where so many are before it, it, and what is behind it
+pub record Part (T : Type 0) : Type 0 where
+  pub may : ℕ → List ℕ → Bool
+  pub part : List ℕ → T
+  pub behind : List ℕ → List ℕ
+
+module _ {T : Type 0} (kind : Part T) where
+  -- so many of a kind, one behind the other
+  unfoldable pub all_may : ℕ → ℕ → List ℕ → Bool
+  all_may i zero row = true
+  all_may i (suc n) row = kind.may i row && all_may (suc i) n (kind.behind row)
+
+  unfoldable pub all_parts : ℕ → List ℕ → List T
+  all_parts zero row = []
+  all_parts (suc n) row = kind.part row ∷ all_parts n (kind.behind row)
+
+  unfoldable pub behind_all : ℕ → List ℕ → List ℕ
+  behind_all zero row = row
+  behind_all (suc n) row = behind_all n (kind.behind row)
+
+  -- answers that are what reading one of a kind answers
+  abbrev pub IsRead : (Bor (List ℕ) → ℕ → Option (T × Bor (List ℕ)) → Type 0) → Type 0
+  IsRead answers = (row : Bor (List ℕ)) (i : ℕ) (r : Option (T × Bor (List ℕ))) → answers row i r → Reads (kind.may i row.now) (kind.part row.now) (kind.behind row.now) r
+
+  -- what reading so many answers: that one may not be; or what is behind them, and they are there
+  abbrev pub ReadsAll : ℕ → List ℕ → List T → Option (Bor (List ℕ)) → Type 0
+  ReadsAll n row after None = all_may 0 n row ≡ false
+  ReadsAll n row after (Some left) = (all_may 0 n row ≡ true) × (after ≡ all_parts n row) × (left.now ≡ behind_all n row)
 
 -- what keeping a row in a lent slice answers, and what the slice holds after it
 abbrev pub Keeps : List ℕ → List ℕ → List ℕ → Result (Unit {0}) Refusal → Type 0

@@ -2,7 +2,7 @@
 ghost use Rattle.patterns.specs.Reading.{Keeps};
 
 use crate::layout::PATTERN_WORDS;
-use crate::reading::lay_pattern;
+use crate::reading::pattern;
 
 // Why a row is not kept.
 #[derive(Clone, Copy, PartialEq, Eq, Debug)]
@@ -20,8 +20,7 @@ pub fn keep(row: &[u64], kept: &mut [u64]) -> Result<(), Refusal>
     if kept.len() != PATTERN_WORDS {
         return Err(Refusal::NotAsLong);
     }
-    let mut words = [0; PATTERN_WORDS];
-    lay_pattern(&mut words, row).ok_or(Refusal::NoPattern)?;
+    let words = pattern(row).ok_or(Refusal::NoPattern)?;
     kept.copy_from_slice(&words);
     Ok(())
 }

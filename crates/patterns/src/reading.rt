@@ -1,97 +1,128 @@
-// A pattern read from a row of numbers: checked and laid into its words, part by part, in one pass.
-// Each part is laid whole, its unused room too, so that nothing has to be known of what stood there.
-ghost use Rattle.std.specs.Prelude.{◌≡◌, ◌+◌, ◌≤◌, length, replicate};
-ghost use Rattle.std.proofs.lemmas.List.Edits.{sets};
-ghost use Rattle.patterns.specs.Limits.{some_tests, a_step, a_pattern};
+// A pattern read from a row of numbers, part by part: each is checked, and answers its words and what stands behind it in the row.
+// What a part leaves unused is 0 in its words.
+ghost use Rattle.std.specs.Prelude.{◌≡◌, ◌+◌, ◌++◌, length, drop};
+ghost use Rattle.patterns.specs.Limits.{a_test, some_tests, a_step, a_pattern};
 ghost use Rattle.patterns.specs.Numbers.{pattern_in};
-ghost use Rattle.patterns.specs.Codes.{test_of};
-ghost use Rattle.patterns.specs.Kept.{test_cells, tests_cells, never_cells, nevers_cells, step_cells, pattern_cells};
-ghost use Rattle.patterns.specs.Reading.{a_head, tests_at, tests_end, never_at, never_end, nevers_at, nevers_end, step_at, step_end, a_never, some_nevers, Laid, LaidAll};
+ghost use Rattle.patterns.specs.Kept.{kept_test, test_cells, tests_cells, never_cells, nevers_cells, step_cells, pattern_cells};
+ghost use Rattle.patterns.specs.Reading.{a_head, First, first_tests, behind_tests, first_never, behind_never, first_nevers, behind_nevers, first_step, behind_step, a_never, some_nevers, Part, IsRead, Reads, ReadsAll, ReadsWhole};
 
-use crate::comparing::{Comparison, number_at};
+use crate::comparing::Comparison;
 use crate::layout::{
-    BACK_AT, COUNT_AT, KINDS, LATE_AT, MOST_NEVERS, MOST_STEPS, MOST_TESTS, NEVER_WORDS, NEVERS_AT,
-    OTHER_AT, PATTERN_WORDS, SIGN_AT, STEP_AT, STEP_WORDS, STEPS_AT, TEST_WORDS, TIMES, WITHIN_AT,
+    KINDS, MOST_NEVERS, MOST_STEPS, MOST_TESTS, NEVER_WORDS, PATTERN_WORDS, STEP_WORDS, TEST_WORDS,
+    TIMES,
 };
 
-// A test, in 5 words.
-fn lay_test(words: &mut [u64], to: usize, test: Comparison)
-    requires { to + 5 ≤ length words.old }
-    ensures { words.new ≡ sets words.old to (test_cells (test_of test)) }
+// The words of tests and of nevers: their count, and room for the most that there can be.
+const TESTS_WORDS: usize = 1 + TEST_WORDS * MOST_TESTS;
+
+const NEVERS_WORDS: usize = 1 + NEVER_WORDS * MOST_NEVERS;
+
+// What stands behind so many numbers of a row.
+fn behind(row: &[u64], many: usize) -> &[u64]
+    ensures { result.now ≡ drop many row.now }
 {
-    let [what, sign, back, step, other] = <[u64; TEST_WORDS]>::from(test);
-    words[to] = what;
-    words[to + SIGN_AT] = sign;
-    words[to + BACK_AT] = back;
-    words[to + STEP_AT] = step;
-    words[to + OTHER_AT] = other;
+    row.get(many..).unwrap_or(&[])
+}
+
+// The first number of a row, and what stands behind it; behind a row's end stand zeros.
+fn first(row: &[u64]) -> (u64, &[u64])
+    ensures { First row.now result }
+{
+    match row {
+        [number, rest @ ..] => (*number, rest),
+        [] => (0, row),
+    }
+}
+
+// Words in front, and words behind them.
+fn laid<const N: usize>(front: &[u64], parts: &[u64]) -> [u64; N]
+    requires { length front.now + length parts.now ≡ N }
+    ensures { result ≡ front.now ++ parts.now }
+{
+    let mut words = [0; N];
+    let (before, rest) = words.split_at_mut(front.len());
+    before.copy_from_slice(front);
+    rest.copy_from_slice(parts);
+    words
+}
+
+// A part into each slot, one behind the other in the row, and what stands behind them; reading one is told how many are before it.
+fn several<'a, T: Drop, F>(slots: &mut [T], row: &'a [u64], read: F) -> Option<&'a [u64]>
+where
+    F: Fn(&'a [u64], u64) -> Option<(T, &'a [u64])>,
+    requires { F.IsAlwaysCallable read }
+    ensures { (part : Part T) → IsRead part (F.post read) → ReadsAll part (length slots.old) row.now slots.new result }
+{
+    let mut left = row;
+    for (before, slot) in slots.iter_mut().enumerate() {
+        let (part, rest) = read(left, before as u64)?;
+        *slot = part;
+        left = rest;
+    }
+    Some(left)
+}
+
+// A test, in 5 words.
+fn test(row: &[u64], before: u64) -> Option<([u64; TEST_WORDS], &[u64])>
+    ensures { Reads (a_test before (kept_test row.now 0)) (test_cells (kept_test row.now 0)) (drop 5 row.now) result }
+{
+    let test = Comparison::read(row, 0, before)?;
+    Some((test.into(), behind(row, TEST_WORDS)))
 }
 
 // Tests, in 21 words.
-fn lay_tests(words: &mut [u64], to: usize, row: &[u64], pos: usize, before: u64) -> Option<usize>
-    requires { (to + 21 ≤ length words.old) × (pos ≤ 1000) }
-    ensures { Laid (some_tests before (tests_at row.now pos)) (tests_end row.now pos) (pos + 21) (sets words.old to (tests_cells (tests_at row.now pos))) words.new result }
+fn tests(row: &[u64], before: u64) -> Option<([u64; TESTS_WORDS], &[u64])>
+    ensures { Reads (some_tests before (first_tests row.now)) (tests_cells (first_tests row.now)) (behind_tests row.now) result }
 {
-    let count = number_at(row, pos);
+    let (count, rest) = first(row);
     if count > MOST_TESTS as u64 {
         return None;
     }
-    words[to] = count;
-    let many = count as usize;
-    for i in 0..many {
-        let test = Comparison::read(row, pos + 1 + TEST_WORDS * i, before)?;
-        lay_test(words, to + 1 + TEST_WORDS * i, test);
-    }
-    let end = to + 1 + TEST_WORDS * MOST_TESTS;
-    words[to + 1 + TEST_WORDS * many..end].fill(0);
-    Some(pos + 1 + TEST_WORDS * many)
+    let mut tests = [[0; TEST_WORDS]; MOST_TESTS];
+    let left = several(
+        &mut tests[..count as usize],
+        rest,
+        |row, _| test(row, before),
+    )?;
+    Some((laid(&[count], tests.as_flattened()), left))
 }
 
-// A never, in 22 words.
-fn lay_never(words: &mut [u64], to: usize, row: &[u64], pos: usize, before: u64) -> Option<usize>
-    requires { (to + 22 ≤ length words.old) × (pos ≤ 900) }
-    ensures { Laid (a_never before (never_at row.now pos)) (never_end row.now pos) (pos + 22) (sets words.old to (never_cells (never_at row.now pos))) words.new result }
+// A kind and tests, in 22 words: a never, or what a step begins with.
+fn kind_and_tests(row: &[u64], before: u64) -> Option<([u64; NEVER_WORDS], &[u64])>
+    ensures { Reads (a_never before (first_never row.now)) (never_cells (first_never row.now)) (behind_never row.now) result }
 {
-    let kind = number_at(row, pos);
+    let (kind, rest) = first(row);
     if kind >= KINDS {
         return None;
     }
-    words[to] = kind;
-    lay_tests(words, to + 1, row, pos + 1, before)
+    let (tests, left) = tests(rest, before)?;
+    Some((laid(&[kind], &tests), left))
 }
 
 // Nevers, in 45 words.
-fn lay_nevers(words: &mut [u64], to: usize, row: &[u64], pos: usize, before: u64) -> Option<usize>
-    requires { (to + 45 ≤ length words.old) × (pos ≤ 800) }
-    ensures { Laid (some_nevers before (nevers_at row.now pos)) (nevers_end row.now pos) (pos + 45) (sets words.old to (nevers_cells (nevers_at row.now pos))) words.new result }
+fn nevers(row: &[u64], before: u64) -> Option<([u64; NEVERS_WORDS], &[u64])>
+    ensures { Reads (some_nevers before (first_nevers row.now)) (nevers_cells (first_nevers row.now)) (behind_nevers row.now) result }
 {
-    let count = number_at(row, pos);
+    let (count, rest) = first(row);
     if count > MOST_NEVERS as u64 {
         return None;
     }
-    words[to] = count;
-    let many = count as usize;
-    let mut next = pos + 1;
-    for i in 0..many {
-        next = lay_never(words, to + 1 + NEVER_WORDS * i, row, next, before)?;
-    }
-    let end = to + 1 + NEVER_WORDS * MOST_NEVERS;
-    words[to + 1 + NEVER_WORDS * many..end].fill(0);
-    Some(next)
+    let mut nevers = [[0; NEVER_WORDS]; MOST_NEVERS];
+    let left = several(
+        &mut nevers[..count as usize],
+        rest,
+        |row, _| kind_and_tests(row, before),
+    )?;
+    Some((laid(&[count], nevers.as_flattened()), left))
 }
 
 // A step, in 67 words.
-fn lay_step(words: &mut [u64], to: usize, row: &[u64], pos: usize, before: u64) -> Option<usize>
-    requires { (to + 67 ≤ length words.old) × (pos ≤ 700) }
-    ensures { Laid (a_step before (step_at row.now pos)) (step_end row.now pos) (pos + 67) (sets words.old to (step_cells (step_at row.now pos))) words.new result }
+fn step(row: &[u64], before: u64) -> Option<([u64; STEP_WORDS], &[u64])>
+    ensures { Reads (a_step before (first_step row.now)) (step_cells (first_step row.now)) (behind_step row.now) result }
 {
-    let kind = number_at(row, pos);
-    if kind >= KINDS {
-        return None;
-    }
-    words[to] = kind;
-    let end = lay_tests(words, to + 1, row, pos + 1, before)?;
-    lay_nevers(words, to + NEVERS_AT, row, end, before)
+    let (front, rest) = kind_and_tests(row, before)?;
+    let (nevers, left) = nevers(rest, before)?;
+    Some((laid(&front, &nevers), left))
 }
 
 // Whether a pattern's first three numbers may be: the window, the lateness, how many steps.
@@ -102,24 +133,16 @@ fn head_may_be(within: u64, late: u64, count: u64) -> bool
 }
 
 // The pattern of a row, in 405 words; None where it may not be.
-pub(crate) fn lay_pattern(words: &mut [u64], row: &[u64]) -> Option<()>
-    requires { 405 ≤ length words.old }
-    ensures { LaidAll (a_pattern (pattern_in row.now)) (sets words.old 0 (pattern_cells (pattern_in row.now))) words.new result }
+pub(crate) fn pattern(row: &[u64]) -> Option<[u64; PATTERN_WORDS]>
+    ensures { ReadsWhole (a_pattern (pattern_in row.now)) (pattern_cells (pattern_in row.now)) result }
 {
-    let within = number_at(row, WITHIN_AT);
-    let late = number_at(row, LATE_AT);
-    let count = number_at(row, COUNT_AT);
+    let (within, rest) = first(row);
+    let (late, rest) = first(rest);
+    let (count, rest) = first(rest);
     if !head_may_be(within, late, count) {
         return None;
     }
-    words[WITHIN_AT] = within;
-    words[LATE_AT] = late;
-    words[COUNT_AT] = count;
-    let many = count as usize;
-    let mut next = STEPS_AT;
-    for i in 0..many {
-        next = lay_step(words, STEPS_AT + STEP_WORDS * i, row, next, i as u64)?;
-    }
-    words[STEPS_AT + STEP_WORDS * many..PATTERN_WORDS].fill(0);
-    Some(())
+    let mut steps = [[0; STEP_WORDS]; MOST_STEPS];
+    several(&mut steps[..count as usize], rest, step)?;
+    Some(laid(&[within, late, count], steps.as_flattened()))
 }
