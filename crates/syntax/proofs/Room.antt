@@ -1,5 +1,7 @@
 -- A reader always has room for what may come next.
 use Rattle.std.proofs.Common.{◌≡◌, ℕ, suc, ◌*◌, ◌≤◌, true, ◌&&◌, ltb, leb, List, [], ◌∷◌, length, sym, refl, ap, ◌∙◌, arith, length-append}
+use Rattle.std.proofs.Math.Logic.{∥∥₁_elim}
+use Rattle.std.proofs.Props.{props}
 use Rattle.std.proofs.lemmas.Bool.{and_parts, leb-true}
 use Rattle.timeline.specs.Lists.{every, flat}
 use Rattle.patterns.specs.Patterns.{Test, Never, Step}
@@ -10,10 +12,9 @@ use Rattle.syntax.specs.declared.drafts.Draft.{Draft}
 use Rattle.syntax.specs.Rows.{never_row, step_row}
 use Rattle.syntax.specs.Reading.{Built}
 use Rattle.syntax.specs.Drafts.{Drawn, Roomy}
-use Rattle.syntax.specs.declared.readers.Reader.{Reader}
-use Rattle.syntax.specs.Reading.{State}
-use Rattle.syntax.specs.Sound.{Fine, Sound}
-use Rattle.syntax.specs.Readers.{Stands}
+use Rattle.syntax.specs.declared.places.Stand.{Stand}
+use Rattle.syntax.specs.Sound.{Fine}
+use Rattle.syntax.specs.Standing.{IsSound}
 use Rattle.syntax.proofs.Growing.{length_each}
 
 pub tests_long : (ts : List Test) → length (flat test_cells ts) ≡ 5 * length ts
@@ -68,5 +69,5 @@ roomy d w f h =
       tests = omega (arith, drawn_tests d w h, f.tests_few);
     }
 
-pub roomy_reader : (r : Reader) → (s : State) × Stands r s × Sound s → Roomy r.draft
-roomy_reader r h = roomy r.draft h.0.built h.2.built h.1.draft
+pub roomy_sound : (at : Stand) (d : Draft) → ∥ IsSound at d ∥₁ → Roomy d
+roomy_sound at d sound = ∥∥₁_elim sound (hlevel props) (λ h. roomy d h.0.built h.2.built h.1.draft)

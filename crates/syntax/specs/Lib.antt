@@ -6,6 +6,7 @@ pub mod Rows
 pub mod Reading
 pub mod Sound
 pub mod Drafts
+pub mod Standing
 pub mod Readers
 pub mod Laws
 pub mod Listing

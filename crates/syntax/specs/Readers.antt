@@ -11,15 +11,11 @@ use Rattle.syntax.specs.Rows.{pattern_row}
 use Rattle.arrayvec.specs.ArrayVec.{ArrayVec}
 use Rattle.syntax.specs.Reading.{State, Reading, means, refused, settled, ready, next, wanted, ended}
 use Rattle.syntax.specs.Sound.{Sound}
-use Rattle.syntax.specs.Drafts.{Drawn}
+use Rattle.syntax.specs.Standing.{StandsFor}
 
-pub record Stands (r : Reader) (s : State) : Type 0 where
-  pub stand : r.stand ≡ s.stand
-  pub draft : Drawn r.draft s.built
-
--- a reader stands somewhere, and that is sound
-abbrev pub IsSound : Reader → Type 0
-IsSound r = (s : State) × Stands r s × Sound s
+-- a reader stands for a state
+abbrev pub Stands : Reader → State → Type 0
+Stands r s = StandsFor r.stand r.draft s
 
 -- what a byte answers: whether a pattern may go on with it, or what could have stood there
 abbrev pub Stepped : ℕ → State → Reader → Result (Unit {0}) Expected → Type 0

@@ -60,6 +60,7 @@ impl Draft {
         }
     }
 
+    // No field of a draft says that there is room: a third never would break it, and none comes by where the reader stands.
     fn add_test(&mut self, test: Comparison)
         requires { Roomy self.old }
         ensures { (w : Built) → Drawn self.old w → Drawn self.new (with_act w (Act.Test test)) }

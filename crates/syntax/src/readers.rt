@@ -1,8 +1,5 @@
 // A reader of a text: where it stands, and what it has read.
-ghost use Rattle.std.specs.Prelude.{◌≡◌};
-ghost use Rattle.syntax.specs.Reading.{State, settled, ready, begun};
-ghost use Rattle.syntax.specs.Sound.{Sound};
-ghost use Rattle.syntax.specs.Readers.{Stands, IsSound, Stepped, Finished};
+ghost use Rattle.syntax.specs.Standing.{IsSound};
 
 use crate::drafts::{Draft, Row, put};
 use crate::expects::Expected;
@@ -14,9 +11,14 @@ use arrayvec::ArrayVec;
 pub struct Reader {
     pub stand: Stand,
     pub draft: Draft,
+    pub ghost sound: { ∥ IsSound stand draft ∥₁ },
 }
 
 impl Reader {
+    ghost use Rattle.syntax.specs.Reading.{State, settled, ready, begun};
+    ghost use Rattle.syntax.specs.Sound.{Sound};
+    ghost use Rattle.syntax.specs.Readers.{Stands, Stepped, Finished};
+
     pub fn new() -> Reader
         ensures { Stands result begun }
     {
@@ -28,7 +30,6 @@ impl Reader {
 
     // A number that is under way ends.
     fn settle(&mut self)
-        requires { IsSound self.old }
         ensures { (s : State) → Stands self.old s → Stands self.new (settled s) }
     {
         let step = self.stand.settle();
@@ -38,7 +39,6 @@ impl Reader {
 
     // It ends before any byte that is no digit.
     fn ready(&mut self, byte: u8)
-        requires { IsSound self.old }
         ensures { (s : State) → Stands self.old s → Stands self.new (ready byte s) }
     {
         if !is_digit(byte) {
@@ -48,7 +48,6 @@ impl Reader {
 
     // A byte on, if a pattern may go on with it; else what could have stood there.
     pub fn read(&mut self, byte: u8) -> Result<(), Expected>
-        requires { IsSound self.old }
         ensures { (s : State) → Stands self.old s → Sound s → Stepped byte s self.new result }
     {
         self.ready(byte);
@@ -63,7 +62,6 @@ impl Reader {
 
     // The numbers of the pattern that is read, if the text may end here.
     pub fn finish(mut self) -> Result<Row, Expected>
-        requires { IsSound self }
         ensures { (s : State) → Stands self s → Sound s → Finished s result }
     {
         self.settle();

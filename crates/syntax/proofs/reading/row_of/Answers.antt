@@ -11,9 +11,6 @@ use Rattle.syntax.proofs.reading.row_of.Goals as goal
 pub loop-at-init : goal.loop-at-init
 loop-at-init c = (begun, c.new-reader.ensures, sound_begun, refl)
 
-pub read-requires : goal.read-requires
-read-requires c = let inv = c.loop-at.invariant in (inv.0, inv.1, inv.2)
-
 pub returns-in-Err : goal.returns-in-Err
 returns-in-Err c =
     let text = c.args.text.now in
@@ -27,9 +24,6 @@ loop-at-preserved c =
     let inv = c.loop-at.invariant in
     let yes = c.in_default.ensures inv.0 inv.1 inv.2 in
     (yes.0, yes.2, yes.3, sym (left_on text c.loop-at.at inv.0 yes.0 c.loop-at-test.true yes.1) ∙ inv.3)
-
-pub finish-requires : goal.finish-requires
-finish-requires c = let inv = c.loop-at.invariant in (inv.0, inv.1, inv.2)
 
 -- the end of a text, where its refusal gets its place
 finished : (r : Result (ArrayVec ℕ) Expected) (m : Result (ArrayVec ℕ) Stop) (s : State) (n : ℕ) (all : Reading) (Q : Expected → Stop → Type 0) → ((e : Expected) (x : Stop) → Q e x → x ≡ record { at = n; expected = e })

@@ -1,6 +1,6 @@
 use Rattle.std.proofs.Common.{◌≡◌, [], ◌∷◌, ◌++◌, length, sym, ap, ◌∙◌, arith, lit<}
 use Rattle.syntax.specs.Reading.{settled, refused, whole}
-use Rattle.syntax.proofs.Room.{roomy_reader}
+use Rattle.syntax.proofs.Room.{roomy_sound}
 use Rattle.syntax.proofs.Staying.{sound_settled, stands_wanted, ended_whole, ended_not}
 use Rattle.syntax.proofs.readers.Reader.finish.Goals as goal
 
@@ -13,8 +13,7 @@ returns-in_default c =
 
 pub put-requires-2 : goal.put-requires-2
 put-requires-2 c =
-    let h = c.requires in
-    let room = roomy_reader c.settle.new.self (settled h.0, c.settle.ensures h.0 h.1, sound_settled h.0 h.2) in
+    let room = roomy_sound _ _ c.settle.new.self.sound in
     let front : length c.put.new.row.items ≡ 3 =
     ap length (c.put.ensures ∙ ap (λ xs. xs ++ (c.in-Some.within ∷ c.in-Some.late ∷ c.len.result ∷ [])) c.new-row.ensures) in
     let steps : length c.as_slice.result.now ≡ length c.settle.new.self.draft.steps.items = ap length c.as_slice.ensures.value in
