@@ -1,6 +1,7 @@
 -- What is added to what is read is fine.
-use Rattle.std.proofs.Common.{◌≡◌, ℕ, suc, ◌+◌, ◌<◌, Bool, true, List, [], ◌∷◌, ◌++◌, length, refl, arith, length-append}
+use Rattle.std.proofs.Common.{◌≡◌, ℕ, suc, ◌+◌, ◌<◌, Bool, true, List, [], ◌∷◌, ◌++◌, length, refl, ◌∙◌, arith, length-append}
 use Rattle.std.proofs.lemmas.Bool.{and_parts, and_from, lt-ltb, le-leb}
+use Rattle.std.proofs.lemmas.List.Recursion.{and_push}
 use Rattle.timeline.specs.Lists.{every}
 use Rattle.patterns.specs.Patterns.{Step}
 use Rattle.patterns.specs.Limits.{a_test, a_step, some_steps}
@@ -14,8 +15,7 @@ use Rattle.syntax.specs.Sound.{Fine, FineAct, FineMove, Sound}
 
 every_push : {A : Type 0} (f : A → Bool) (xs : List A) (x : A) → every f xs ≡ true → f x ≡ true → every f (xs ++ (x ∷ [])) ≡ true
 unfolding every
-every_push f [] x a b = rw b
-every_push f (y ∷ ys) x a b = let ih = every_push f ys x in grind arith
+every_push f xs x a b = and_push (every f) f refl (λ y ys. refl) xs x ∙ and_from _ _ a b
 
 steps_push : (n : ℕ) (ss : List Step) (s : Step) → some_steps n ss ≡ true → a_step (n + length ss) s ≡ true → some_steps n (ss ++ (s ∷ [])) ≡ true
 unfolding some_steps

@@ -1,6 +1,6 @@
 -- The row of a pattern that may be says that pattern.
 use Rattle.std.proofs.Common.{◌≡◌, ℕ, suc, ◌+◌, ◌*◌, true, ◌&&◌, eqb, ltb, leb, List, [], ◌∷◌, ◌++◌, length, get_or, take, drop, sym, refl, ap, ◌∙◌, append_assoc, append-nil, arith, length-append}
-use lib.Seq.{drop-append_seam}
+use Rattle.std.proofs.lemmas.List.{drop_at}
 use Rattle.std.proofs.lemmas.Bool.{and_parts, eqb-true}
 use Rattle.timeline.specs.Lists.{pick, every, none_of, flat}
 use Rattle.patterns.specs.Patterns.{Test, Never, Step, Pattern}
@@ -31,9 +31,7 @@ tests_back n (t ∷ ts) rest e =
 
 -- what stands behind tests, where a kind and a count stand in front of them
 after_tests : (a b : ℕ) (ts : List Test) (rest : List ℕ) → drop (2 + 5 * length ts) (a ∷ b ∷ (flat test_cells ts ++ rest)) ≡ rest
-after_tests a b ts rest =
-    let e : 2 + 5 * length ts ≡ suc (suc (length (flat test_cells ts))) = omega (arith, tests_long ts) in
-    rw e (drop-append_seam (flat test_cells ts) rest)
+after_tests a b ts rest = drop_at (a ∷ b ∷ flat test_cells ts) rest _ (omega (arith, tests_long ts))
 
 nevers_back : (n : ℕ) (vs : List Never) (rest : List ℕ) → every (a_never n) vs ≡ true → nevers_in (length vs) (flat never_row vs ++ rest) ≡ vs
 unfolding nevers_in flat every
@@ -52,9 +50,7 @@ nevers_far (v ∷ vs) rest =
 
 -- what stands behind nevers, where their count stands in front of them
 after_nevers : (a : ℕ) (vs : List Never) (rest : List ℕ) → drop (1 + length (flat never_row vs)) (a ∷ (flat never_row vs ++ rest)) ≡ rest
-after_nevers a vs rest =
-    let e : 1 + length (flat never_row vs) ≡ suc (length (flat never_row vs)) = omega arith in
-    rw e (drop-append_seam (flat never_row vs) rest)
+after_nevers a vs rest = drop_at (a ∷ flat never_row vs) rest _ (omega arith)
 
 -- a step's row in parts
 step_parts : (s : Step) (more rest : List ℕ)

@@ -1,5 +1,5 @@
 -- A step or a never that is whole goes on to a pattern.
-use Rattle.std.proofs.Common.{◌≡◌, ℕ, ◌+◌, ◌<◌, true, ltb, List, [], ◌∷◌, ◌++◌, length, None, codes, refl, ◌∙◌, arith, length-append}
+use Rattle.std.proofs.Common.{◌≡◌, ℕ, ◌+◌, ◌<◌, true, ltb, List, [], ◌∷◌, ◌++◌, length, None, codes, refl, ◌∙◌, arith, lit<, length-append}
 use Rattle.std.proofs.lemmas.Bool.{lt-ltb}
 use Rattle.patterns.specs.Patterns.{Pattern}
 use Rattle.syntax.specs.declared.places.Role.{Role}
@@ -14,7 +14,7 @@ use Rattle.syntax.specs.Rules.{goes, ended_as, ended}
 use Rattle.syntax.specs.Reading.{Built, State, means, with_never, with_step, with_act, runs}
 use Rattle.syntax.specs.Sound.{FineHead}
 use Rattle.syntax.proofs.Letters.{lettered}
-use Rattle.syntax.proofs.Passing.{st, Passes, pass_begin}
+use Rattle.syntax.proofs.Passing.{st, Passes, pass_begin, zero_digit}
 use Rattle.syntax.proofs.Free.{free}
 use Rattle.syntax.proofs.TypedItems.{step_space}
 use Rattle.syntax.proofs.TypedWhole.{within_on}
@@ -86,13 +86,11 @@ module _ (w : Built) (few : length w.names < 6) where
   pub live_step_digits : (k : ℕ) → Live (st (Digits StepKind k) w)
   live_step_digits k = live_by (32 ∷ []) (step_space k w) (live_step_name k)
 
-  item_zero : Passes (st (At Item) w) (codes "0") (st (Digits StepKind 0) w)
-  unfolding runs
-  item_zero = let e : ltb (length w.names) 6 ≡ true = lt-ltb _ _ few in record { on = λ at rest. (at + 1, rw e) }
-
   -- a step may always come where there is room
   pub live_new : Live (st (At Item) w)
-  live_new = live_by (codes "0") item_zero (live_step_digits 0)
+  live_new =
+      let there : ltb (length w.names) 6 ≡ true = lt-ltb _ _ few in
+      live_by (codes "0") (zero_digit Item StepKind w (rw there) (lit< tt)) (live_step_digits 0)
 
 pub live_ended : (h : Head) (w : Built) → FineHead h w → Live (st (At Item) (with_act w (ended h)))
 live_ended h w f = by h.role
@@ -108,11 +106,3 @@ never_end k w = record { on = λ at rest. (at + 1, refl) }
 pub never_digits_end : (k : ℕ) (w : Built) → Passes (st (Digits NeverKind k) w) (codes ";") (st (At Item) (with_act w (EndNever k)))
 unfolding runs
 never_digits_end k w = record { on = λ at rest. (at + 1, refl) }
-
-pub never_zero : (w : Built) → Passes (st (At (Number NeverKind)) w) (codes "0") (st (Digits NeverKind 0) w)
-unfolding runs
-never_zero w = record { on = λ at rest. (at + 1, refl) }
-
-pub step_zero : (w : Built) → Passes (st (At (Number StepKind)) w) (codes "0") (st (Digits StepKind 0) w)
-unfolding runs
-step_zero w = record { on = λ at rest. (at + 1, refl) }

@@ -76,7 +76,7 @@ module _ (w : Built) (b : ℕ) where
   fits_part h What fine g = fits_mapped w (field_begun b) _ (λ f _. going w (Rest (Of f) 1 (Testing h (How f))) ((g.0, g.1, g.2, tt), field_long f))
   fits_part h (How f) fine g = fits_sign h f (g.0, g.1, g.2, tt)
   fits_part h (Against f s) fine g =
-      fits_mapped w (step_named b w.names) _ (λ i e. going w (At (Testing h (OtherDot f s i))) (g.0, g.1, g.2, omega (arith, named_below 0 b i w.names e)))
+      fits_mapped w (step_named b w.names) _ (λ i e. going w (At (Testing h (OtherDot f s i))) (g.0, g.1, g.2, named_below b i w.names e))
   fits_part h (OtherDot f s i) fine g = fits_if w _ _ (λ _. going w (At (Testing h (OtherField f s i))) g)
   fits_part h (OtherField f s i) fine g = fits_mapped w (field_begun b) _ (λ x _. back_fine h f s i x fine (g.0, g.1, g.2, tt) g.3)
 

@@ -11,11 +11,6 @@ unfolding flat
 flat_push f [] x = append-nil (f x)
 flat_push f (y ∷ ys) x = ap (λ zs. f y ++ zs) (flat_push f ys x) ∙ sym (append_assoc (f y) (flat f ys) (f x))
 
-pub each_push : {A B : Type 0} (f : A → B) (xs : List A) (x : A) → each f (xs ++ (x ∷ [])) ≡ each f xs ++ (f x ∷ [])
-unfolding each
-each_push f [] x = refl
-each_push f (y ∷ ys) x = ap (λ zs. f y ∷ zs) (each_push f ys x)
-
 pub length_each : {A B : Type 0} (f : A → B) (xs : List A) → length (each f xs) ≡ length xs
 unfolding each
 length_each f [] = refl

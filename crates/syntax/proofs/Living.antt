@@ -1,5 +1,5 @@
 -- Wherever a reader stands, some text goes on to a pattern.
-use Rattle.std.proofs.Common.{◌≡◌, ℕ, zero, suc, ◌+◌, ◌-◌, ◌<◌, Bool, true, false, eqb, ltb, [], ◌∷◌, length, get_or, drop, Some, None, codes, refl, ap, ◌∙◌, add-one, arith, drop_of_length-le, drop-cons}
+use Rattle.std.proofs.Common.{◌≡◌, ℕ, zero, suc, ◌+◌, ◌-◌, ◌<◌, Bool, true, false, eqb, ltb, [], ◌∷◌, length, get_or, drop, Some, None, codes, refl, ap, ◌∙◌, add-one, arith, lit<, drop_of_length-le, drop-cons}
 use Rattle.std.proofs.lemmas.Bool.{lt-ltb, le-ltb, ltb-true, ltb-false, eq-eqb}
 use Rattle.timeline.specs.Lists.{pick}
 use Rattle.patterns.specs.declared.fields.Field.{Field}
@@ -25,9 +25,9 @@ use Rattle.syntax.specs.Typed.{sign_text}
 use Rattle.syntax.specs.Sound.{FineHead, FineSlot, FinePlace, FineStand}
 use Rattle.syntax.proofs.Moving.{head_kept}
 use Rattle.syntax.proofs.Letters.{lettered_by}
-use Rattle.syntax.proofs.Passing.{st, Passes, then, pass_byte, pass_begin}
+use Rattle.syntax.proofs.Passing.{st, Passes, then, pass_byte, pass_begin, zero_digit}
 use Rattle.syntax.proofs.TypedTests.{own_dot, own_field, own_sign, other_dot, other_field}
-use Rattle.syntax.proofs.Endings.{Live, live_by, live_whole, live_late_digits, live_lateness, live_late_word, live_window_digits, live_window, live_some, named_end, tested_end, live_step_name, live_step_digits, live_new, live_ended, never_end, never_digits_end, never_zero, step_zero}
+use Rattle.syntax.proofs.Endings.{Live, live_by, live_whole, live_late_digits, live_lateness, live_late_word, live_window_digits, live_window, live_some, named_end, tested_end, live_step_name, live_step_digits, live_new, live_ended, never_end, never_digits_end}
 
 -- TESTS
 
@@ -35,14 +35,6 @@ module _ (h : Head) (w : Built) (f : Field) (s : Sign) where
   other_end : (v : ℕ) → Passes (st (Digits (Other h f s) v) w) (codes ";") (st (At Item) (with_act (with_act w (Test (record { what = f; sign = s; step = None; other = v }))) (ended h)))
   unfolding runs
   other_end v = record { on = λ at rest. (at + 1, refl) }
-
-  other_zero : Passes (st (At (Testing h (Against f s))) w) (codes "0") (st (Digits (Other h f s) 0) w)
-  unfolding runs
-  other_zero = record { on = λ at rest. (at + 1, refl) }
-
-  slot_zero : Passes (st (At (Number (Other h f s))) w) (codes "0") (st (Digits (Other h f s) 0) w)
-  unfolding runs
-  slot_zero = record { on = λ at rest. (at + 1, refl) }
 
 module _ (h : Head) (w : Built) (fine : FineHead h w) where
   live_tested : Live (st (At (Tested h)) w)
@@ -54,7 +46,7 @@ module _ (h : Head) (w : Built) (fine : FineHead h w) where
       live_by (codes ";") (other_end h w f s v) (live_ended h (with_act w (Test t)) (head_kept w h t fine))
 
   live_against : (f : Field) (s : Sign) → Live (st (At (Testing h (Against f s))) w)
-  live_against f s = live_by (codes "0") (other_zero h w f s) (live_other_digits f s 0)
+  live_against f s = live_by (codes "0") (zero_digit (Testing h (Against f s)) (Other h f s) w refl (lit< tt)) (live_other_digits f s 0)
 
   live_how : (f : Field) → Live (st (At (Testing h (How f))) w)
   live_how f = live_by (sign_text Equal) (own_sign w h f Equal) (live_against f Equal)
@@ -92,10 +84,10 @@ live_part h (OtherField g s i) w f e = live_other_field h w f g s i
 -- EVERY PLACE
 
 live_slot : (n : Slot) (w : Built) → FineSlot n w → Live (st (At (Number n)) w)
-live_slot StepKind w h = live_by (codes "0") (step_zero w) (live_step_digits w h.0 0)
+live_slot StepKind w h = live_by (codes "0") (zero_digit (Number StepKind) StepKind w refl (lit< tt)) (live_step_digits w h.0 0)
 live_slot NeverKind w h =
-    live_by (codes "0") (never_zero w) (live_by (codes ";") (never_digits_end 0 w) (live_new (with_never w 0) h.0))
-live_slot (Other g f s) w h = live_by (codes "0") (slot_zero g w f s) (live_other_digits g w h.0 f s 0)
+    live_by (codes "0") (zero_digit (Number NeverKind) NeverKind w refl (lit< tt)) (live_by (codes ";") (never_digits_end 0 w) (live_new (with_never w 0) h.0))
+live_slot (Other g f s) w h = live_by (codes "0") (zero_digit (Number (Other g f s)) (Other g f s) w refl (lit< tt)) (live_other_digits g w h.0 f s 0)
 live_slot Window w h = live_window w
 live_slot (Lateness t) w h = live_lateness w t
 

@@ -1,7 +1,9 @@
 -- Moves of a reader that are fine by what is tested, and numbers.
-use Rattle.std.proofs.Common.{◌≡◌, ℕ, suc, ◌+◌, ◌-◌, ◌*◌, ◌<◌, Bool, true, false, cond, eqb, ltb, List, [], ◌∷◌, length, Some, None, Option, refl, arith, lit<}
+use Rattle.std.proofs.Common.{◌≡◌, ℕ, ◌+◌, ◌-◌, ◌*◌, ◌<◌, ◌==◌, Bool, true, false, ltb, List, length, Some, None, Option, refl, ◌∙◌, lit<}
 use Rattle.std.specs.Option.{option_map}
 use Rattle.std.proofs.lemmas.Bool.{and_from, lt-ltb, ltb-true}
+use Rattle.std.proofs.lemmas.List.Quantifiers.{position-Some}
+use Rattle.std.proofs.lemmas.Iterator.Adapters.{position_from-zero}
 use Rattle.timeline.specs.Lists.{pick, none_of}
 use Rattle.patterns.specs.declared.fields.Field.{Field}
 use Rattle.patterns.specs.declared.fields.Field.TheVariants.{Who, Value, Time}
@@ -21,7 +23,7 @@ use Rattle.patterns.specs.declared.comparing.Comparison.{Comparison}
 use Rattle.syntax.specs.declared.moves.Act.TheVariants.{Test}
 use Rattle.syntax.specs.declared.moves.Move.{Move}
 use Rattle.syntax.specs.Words.{spelling}
-use Rattle.syntax.specs.Names.{named_from}
+use Rattle.syntax.specs.Names.{step_named}
 use Rattle.syntax.specs.Rules.{goes, only_if, slot_of, limit, counted, counts, numbered, settle}
 use Rattle.syntax.specs.Reading.{Built, with_act}
 use Rattle.syntax.specs.Sound.{FineHead, FineSlot, FinePlace, FineStand, FineMove, Fits}
@@ -47,13 +49,8 @@ module _ (w : Built) where
 
 -- NAMES AND CODES
 
-pub named_below : (n b i : ℕ) (xs : List ℕ) → named_from n b xs ≡ Some i → i < n + length xs
-named_below n b i [] e = let z : ◌≡◌ {A = ℕ} 0 1 = cc in absurd (omega arith)
-named_below n b i (x ∷ xs) e = by (eqb x b) e (named_below (n + 1) b i xs)
-  where
-    by : (t : Bool) → cond t (Some n) (named_from (n + 1) b xs) ≡ Some i → (named_from (n + 1) b xs ≡ Some i → i < n + 1 + length xs) → i < n + suc (length xs)
-    by true h rec = let k : n ≡ i = cc in omega arith
-    by false h rec = omega (arith, rec h)
+pub named_below : (b i : ℕ) (xs : List ℕ) → step_named b xs ≡ Some i → i < length xs
+named_below b i xs e = (position-Some (λ x. x == b) xs i 0 (position_from-zero (λ x. x == b) xs ∙ e)).0
 
 pub field_few : (f : Field) → ltb (field_number f) 3 ≡ true
 field_few Who = refl

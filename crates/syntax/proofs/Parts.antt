@@ -1,11 +1,10 @@
 -- Parts of a kept pattern: words that stand in longer words, and what they mean there.
-use Rattle.std.proofs.Common.{◌≡◌, ℕ, zero, suc, ◌+◌, ◌*◌, ◌/◌, ◌<◌, ◌≤◌, Bool, true, false, leb, List, [], ◌∷◌, length, length-take, length-take-le, min, get_or, take, drop, drop-drop, sym, refl, ap, ◌∙◌, arith}
+use Rattle.std.proofs.Common.{◌≡◌, ℕ, zero, suc, ◌+◌, ◌*◌, ◌/◌, ◌<◌, ◌≤◌, List, [], ◌∷◌, length, length-take, length-take-le, min, get_or, take, drop, drop-drop, sym, refl, ap, ◌∙◌, arith}
 use Rattle.std.proofs.lemmas.List.{get_or-take, get_or-drop}
-use Rattle.std.proofs.lemmas.Bool.{leb-true}
+use Rattle.std.proofs.lemmas.Bool.Decides.{nat_tests}
 use Rattle.std.specs.Simd.{first_chunks}
-use Rattle.timeline.specs.Lists.{pick, each, run}
-use Rattle.patterns.specs.Kept.{at_most, kept_test, kept_tests, kept_never, kept_nevers, step_place, kept_step}
-use Rattle.syntax.specs.Typed.{step_in}
+use Rattle.timeline.specs.Lists.{each, run}
+use Rattle.patterns.specs.Kept.{at_most, kept_test, kept_tests, kept_never, kept_nevers, step_in, step_place, kept_step}
 
 -- the first n words of p stand in c at a place
 abbrev pub Part : List ℕ → List ℕ → ℕ → ℕ → Type 0
@@ -40,11 +39,7 @@ pub turns : {A : Type 0} (m i : ℕ) (xs : List A) → m ≤ length xs → i ≤
 turns m i xs a b c = let e : length (take m xs) ≡ m = length-take-le m xs a in omega arith
 
 pub at_most_few : (m n : ℕ) → at_most m n ≤ m
-at_most_few m n = by (leb n m) refl
-  where
-    by : (t : Bool) → leb n m ≡ t → pick t n m ≤ m
-    by true e = leb-true n m e
-    by false e = omega arith
+at_most_few m n = grind (arith, nat_tests)
 
 each_same : {A : Type 0} (f g : ℕ → A) (i m : ℕ) → ((j : ℕ) → j < i + m → f j ≡ g j) → each f (run i m) ≡ each g (run i m)
 unfolding each run

@@ -1,5 +1,5 @@
 -- A reader passes over a text: words and marks by computation, numbers digit by digit, names by what they are.
-use Rattle.std.proofs.Common.{◌≡◌, ℕ, ◌+◌, ◌-◌, ◌*◌, ◌/◌, ◌%◌, ◌^◌, ◌<◌, ◌≤◌, true, false, ltb, List, [], ◌∷◌, ◌++◌, length, Some, decimal, ap, ◌∙◌, append_assoc, arith}
+use Rattle.std.proofs.Common.{◌≡◌, ℕ, ◌+◌, ◌-◌, ◌*◌, ◌/◌, ◌%◌, ◌^◌, ◌<◌, ◌≤◌, true, false, ltb, List, [], ◌∷◌, ◌++◌, length, Some, None, codes, decimal, ap, ◌∙◌, append_assoc, arith, lit<}
 use Rattle.std.proofs.lemmas.Fmt.{decimal_by_steps}
 use Rattle.std.proofs.lemmas.Bool.{lt-ltb}
 use Rattle.std.proofs.lemmas.Bool.Decides.{nat_tests}
@@ -24,10 +24,19 @@ pub then : {s t u : State} (xs ys : List ℕ) → Passes s xs t → Passes t ys 
 then {s} xs ys p q =
     record { on = λ at rest. let a = p.on at (ys ++ rest) in let b = q.on a.0 rest in (b.0, ap (runs at s) (append_assoc xs ys rest) ∙ a.1 ∙ b.1) }
 
+-- a byte that goes on
+pub runs_on : (b : ℕ) (s t : State) (at : ℕ) → next b (ready b s) ≡ Some t → (rest : List ℕ) → runs at s (b ∷ rest) ≡ runs (at + 1) t rest
+unfolding runs
+runs_on b s t at e rest = ap (λ o. by_some o (refused at (wanted (settled (ready b s)))) (λ u. runs (at + 1) u rest)) e
+
+-- a byte that does not go on is refused, whatever follows
+pub runs_stuck : (b : ℕ) (s : State) (at : ℕ) (rest : List ℕ) → next b (ready b s) ≡ None → runs at s (b ∷ rest) ≡ refused at (wanted (settled (ready b s)))
+unfolding runs
+runs_stuck b s at rest e = ap (λ o. by_some o (refused at (wanted (settled (ready b s)))) (λ u. runs (at + 1) u rest)) e
+
 -- one byte
 pub pass_byte : (b : ℕ) (s t : State) → next b (ready b s) ≡ Some t → Passes s (b ∷ []) t
-unfolding runs
-pass_byte b s t e = record { on = λ at rest. (at + 1, ap (λ o. by_some o (refused at (wanted (settled (ready b s)))) (λ t. runs (at + 1) t rest)) e) }
+pass_byte b s t e = record { on = λ at rest. (at + 1, runs_on b s t at e rest) }
 
 -- the first byte of a name, a word or a mark
 pub pass_begin : (b : ℕ) (p : Place) (w : Built) (m : Move) → digit b ≡ false → white b ≡ false → begins p w.names (length w.nevers) (length w.tests) b ≡ Some m → Passes (st (At p) w) (b ∷ []) (moved w m)
@@ -42,6 +51,10 @@ module _ (p : Place) (n : Slot) (w : Built) (here : slot_of p (length w.names) �
       let e : 0 * 10 + (48 + v - 48) ≡ v = omega arith in
       let b : ltb v (limit n) ≡ true = lt-ltb _ _ m in
       pass_byte (48 + v) _ _ (rw (d, d, here, e, b))
+
+  -- any number may begin with a zero
+  pub zero_digit : 0 < limit n → Passes (st (At p) w) (codes "0") (st (Digits n 0) w)
+  zero_digit m = first_digit 0 (lit< tt) m
 
 more_digits : (n : Slot) (w : Built) (v : ℕ) → v < limit n → Passes (st (Digits n (v / 10)) w) ((48 + v % 10) ∷ []) (st (Digits n v) w)
 more_digits n w v m =

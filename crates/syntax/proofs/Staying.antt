@@ -1,5 +1,7 @@
 -- A reader stays sound, byte by byte; and what it has read in the end is a pattern that may be.
-use Rattle.std.proofs.Common.{◌≡◌, ℕ, ◌+◌, ◌<◌, ◌≤◌, Bool, true, false, List, length, get_or, drop, Some, None, Ok, Err, Option, refl, ap, ◌∙◌, subst, add-one, arith, drop_of_length-le, drop-cons}
+use Rattle.std.proofs.Common.{◌≡◌, ℕ, ◌+◌, ◌<◌, ◌≤◌, Bool, true, false, List, length, get_or, drop, Some, None, Ok, Err, Option, refl, ap, ◌∙◌, subst, arith}
+use Rattle.std.proofs.lemmas.Option.{none-some}
+use Rattle.std.proofs.lemmas.List.{at_drop_more, at_drop_all}
 use Rattle.std.specs.Option.{option_map}
 use Rattle.timeline.specs.Lists.{pick, every}
 use Rattle.patterns.specs.Limits.{some_steps}
@@ -9,7 +11,7 @@ use Rattle.arrayvec.specs.ArrayVec.{ArrayVec}
 use Rattle.patterns.specs.Patterns.{Pattern}
 use Rattle.syntax.specs.Words.{digit}
 use Rattle.syntax.specs.Rules.{settle, steps_on}
-use Rattle.syntax.specs.Reading.{State, Reading, means, refused, moved, settled, ready, next, wanted, whole, by_some, ended, runs, begun}
+use Rattle.syntax.specs.Reading.{State, Reading, means, refused, moved, settled, ready, next, wanted, whole, ended, runs, begun}
 use Rattle.syntax.specs.Expects.{expects}
 use Rattle.syntax.specs.declared.readers.Reader.{Reader}
 use Rattle.syntax.specs.Rows.{pattern_row}
@@ -19,6 +21,7 @@ use Rattle.syntax.proofs.Room.{drawn_nevers, drawn_tests}
 use Rattle.syntax.proofs.Adding.{sound_move}
 use Rattle.syntax.proofs.Moving.{settle_fine}
 use Rattle.syntax.proofs.Fitting.{fits_step}
+use Rattle.syntax.proofs.Passing.{runs_on, runs_stuck}
 
 pub sound_begun : Sound begun
 unfolding every some_steps
@@ -42,7 +45,7 @@ pub sound_next : (b : ℕ) (s t : State) → Sound s → next b s ≡ Some t →
 sound_next b s t h e = by (steps_on s.stand s.built.names (length s.built.nevers) (length s.built.tests) b) (fits_step s.built b s.stand h.built h.stand) e
   where
     by : (o : Option Move) → Fits s.built o → option_map (moved s.built) o ≡ Some t → Sound t
-    by None g k = let z : ◌≡◌ {A = ℕ} 0 1 = cc in absurd (omega arith)
+    by None g k = absurd (none-some _ k)
     by (Some m) g k = let same : moved s.built m ≡ t = cc in subst Sound same (sound_move s.built m h.built g)
 
 -- WHAT A READER ANSWERS, where it stands
@@ -68,21 +71,15 @@ module _ (r : Reader) (s : State) (h : Stands r s) where
 -- THE BYTES THAT ARE LEFT
 
 module _ (text : List ℕ) (i : ℕ) (s : State) where
-  left_more : i < length text
-      → runs i s (drop i text)
-      ≡ by_some (next (get_or text i 0) (ready (get_or text i 0) s)) (refused i (wanted (settled (ready (get_or text i 0) s)))) (λ t. runs (i + 1) t (drop (i + 1) text))
-  unfolding runs
-  left_more l = rw (drop-cons text i 0, add-one)
-
   pub left_on : (t : State) → i < length text → next (get_or text i 0) (ready (get_or text i 0) s) ≡ Some t → runs i s (drop i text) ≡ runs (i + 1) t (drop (i + 1) text)
-  left_on t l e = left_more l ∙ ap (λ o. by_some o (refused i (wanted (settled (ready (get_or text i 0) s)))) (λ t. runs (i + 1) t (drop (i + 1) text))) e
+  left_on t l e = at_drop_more (runs i s) text i 0 l ∙ runs_on (get_or text i 0) s t i e (drop (i + 1) text)
 
   pub left_refused : i < length text → next (get_or text i 0) (ready (get_or text i 0) s) ≡ None → runs i s (drop i text) ≡ refused i (wanted (settled (ready (get_or text i 0) s)))
-  left_refused l e = left_more l ∙ ap (λ o. by_some o (refused i (wanted (settled (ready (get_or text i 0) s)))) (λ t. runs (i + 1) t (drop (i + 1) text))) e
+  left_refused l e = at_drop_more (runs i s) text i 0 l ∙ runs_stuck (get_or text i 0) s i (drop (i + 1) text) e
 
   pub left_none : length text ≤ i → runs i s (drop i text) ≡ ended i (settled s)
   unfolding runs
-  left_none l = rw drop_of_length-le
+  left_none l = at_drop_all (runs i s) text i l
 
 -- THE ANSWER
 

@@ -7,6 +7,7 @@ use Rattle.syntax.specs.Reading.{State, means, refused, settled, ready, next, wa
 use Rattle.syntax.specs.Laws.{RefusedExactly}
 use Rattle.syntax.specs.Sound.{Sound}
 use Rattle.syntax.proofs.Staying.{sound_begun, sound_ready, sound_next}
+use Rattle.syntax.proofs.Passing.{runs_on, runs_stuck}
 use Rattle.syntax.proofs.Meaning.{no_pattern}
 use Rattle.syntax.proofs.Living.{live}
 
@@ -23,9 +24,6 @@ record Stopped (s : State) (text : List ℕ) (from at : ℕ) : Type 0 where
 refused_place : (a b : ℕ) (d e : Expected) → refused a d ≡ refused b e → a ≡ b
 refused_place a b d e h = cc
 
-means_not : {A : Type 0} (at : ℕ) (e : Expected) (p : Pattern) → means p ≡ refused at e → A
-means_not at e p h = no_pattern at e p (sym h)
-
 -- it stops where it stands
 here : (s : State) (text : List ℕ) (from at : ℕ) → Sound s → from ≡ at → (0 < length text → next (get_or text 0 0) (ready (get_or text 0 0) s) ≡ None) → Stopped s text from at
 here s text from at h e stuck =
@@ -37,12 +35,7 @@ end_stopped s from at e h k = by (whole (settled s).stand) k
   where
     by : (o : Option (ℕ × ℕ)) → by_some o (refused from (wanted (settled s))) (λ t. means (record { steps = (settled s).built.steps; within = t.0; late = t.1 })) ≡ refused at e → Stopped s [] from at
     by None g = here s [] from at h (refused_place from at _ e g) (λ l. absurd (omega arith))
-    by (Some t) g = means_not at e _ g
-
--- a byte that goes on
-on_more : (b : ℕ) (s t : State) (from : ℕ) → next b (ready b s) ≡ Some t → (more : List ℕ) → runs from s (b ∷ more) ≡ runs (from + 1) t more
-unfolding runs
-on_more b s t from e more = ap (λ o. by_some o (refused from (wanted (settled (ready b s)))) (λ u. runs (from + 1) u more)) e
+    by (Some t) g = no_pattern at e _ (sym g)
 
 stopped : (text : List ℕ) (s : State) (from at : ℕ) (e : Expected) → Sound s → runs from s text ≡ refused at e → Stopped s text from at
 unfolding runs
@@ -60,14 +53,9 @@ stopped (b ∷ bs) s from at e h k = by (next b (ready b s)) refl k (λ t. stopp
           within = omega (arith, r.within);
           state = r.state;
           sound = r.sound;
-          on = λ more. on_more b s t from g (take r.count bs ++ more) ∙ r.on more;
+          on = λ more. runs_on b s t from g (take r.count bs ++ more) ∙ r.on more;
           stuck = λ l. r.stuck (omega arith);
         }
-
--- a byte that does not go on is refused, whatever follows
-stuck_refused : (b : ℕ) (s : State) (at : ℕ) (more : List ℕ) → next b (ready b s) ≡ None → runs at s (b ∷ more) ≡ refused at (wanted (settled (ready b s)))
-unfolding runs
-stuck_refused b s at more e = ap (λ o. by_some o (refused at (wanted (settled (ready b s)))) (λ u. runs (at + 1) u more)) e
 
 pub refused_exactly : RefusedExactly
 unfolding RefusedExactly
@@ -84,5 +72,5 @@ refused_exactly = λ text at e h.
           let less : r.count < length text = omega arith in
           let one : take (at + 1) text ++ more ≡ take r.count text ++ (b ∷ more) =
           ap (λ n. take (n + 1) text ++ more) (sym same) ∙ ap (λ xs. xs ++ more) (take_more text r.count 0 less) ∙ append_assoc (take r.count text) (b ∷ []) more in
-          no_pattern at _ p (sym (stuck_refused b r.state at more (r.stuck less)) ∙ sym (r.on (b ∷ more)) ∙ ap reads (sym one) ∙ k);
+          no_pattern at _ p (sym (runs_stuck b r.state at more (r.stuck less)) ∙ sym (r.on (b ∷ more)) ∙ ap reads (sym one) ∙ k);
     }

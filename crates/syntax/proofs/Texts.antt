@@ -1,12 +1,13 @@
 -- Parts written in a loop, one after the other.
-use Rattle.std.proofs.Common.{◌≡◌, ℕ, zero, suc, ◌+◌, List, [], ◌∷◌, ◌++◌, Bool, true, false, eqb, slice_get, sym, refl, ap, ◌∙◌, append_assoc, add-one, arith}
+use Rattle.std.proofs.Common.{◌≡◌, ℕ, zero, suc, ◌+◌, List, [], ◌∷◌, ◌++◌, slice_get, sym, refl, ap, ◌∙◌, append_assoc, add-one, arith}
 use Rattle.std.specs.Option.{option_to_list}
-use Rattle.timeline.specs.Lists.{pick, each, flat, run}
+use Rattle.timeline.specs.Lists.{each, flat, run}
+use Rattle.patterns.specs.declared.fields.Field.{Field}
+use Rattle.patterns.specs.declared.fields.Sign.{Sign}
 use Rattle.patterns.specs.declared.fields.Field.TheVariants.{Who, Value, Time}
 use Rattle.patterns.specs.declared.fields.Sign.TheVariants.{Equal, Below, NotBelow}
 use Rattle.patterns.specs.Patterns.{Test, Never, Step}
-use Rattle.patterns.specs.Codes.{field_number, field_numbered, sign_number, sign_numbered}
-use Rattle.patterns.specs.Codes.{test_of, comparison}
+use Rattle.patterns.specs.Codes.{field_number, field_numbered, sign_number, sign_numbered, test_of, comparison}
 use Rattle.syntax.specs.Typed.{joint, typed_other, typed_test, typed_more, typed_tests, typed_never, typed_step, typed_steps}
 use Rattle.syntax.proofs.Growing.{flat_push}
 use Rattle.syntax.proofs.Letters.{run_push}
@@ -59,25 +60,19 @@ unfolding typed_steps
 all_steps g m = all_parts typed_steps typed_step (λ _. refl) (λ i s ss. refl) g 0 m
 
 -- what is typed of a test hangs on no more than the field, the sign and the step that its numbers mean
-same_field : (n : ℕ) → field_numbered (field_number (field_numbered n)) ≡ field_numbered n
-same_field n = by (eqb n 0) (eqb n 1)
-  where
-    by : (a b : Bool) → field_numbered (field_number (pick a Who (pick b Value Time))) ≡ pick a Who (pick b Value Time)
-    by true b = refl
-    by false true = refl
-    by false false = refl
+same_field : (f : Field) → field_numbered (field_number f) ≡ f
+same_field Who = refl
+same_field Value = refl
+same_field Time = refl
 
-same_sign : (n : ℕ) → sign_numbered (sign_number (sign_numbered n)) ≡ sign_numbered n
-same_sign n = by (eqb n 0) (eqb n 1)
-  where
-    by : (a b : Bool) → sign_numbered (sign_number (pick a Equal (pick b Below NotBelow))) ≡ pick a Equal (pick b Below NotBelow)
-    by true b = refl
-    by false true = refl
-    by false false = refl
+same_sign : (s : Sign) → sign_numbered (sign_number s) ≡ s
+same_sign Equal = refl
+same_sign Below = refl
+same_sign NotBelow = refl
 
 same_other : (is : List ℕ) (v : ℕ) → typed_other (option_to_list (slice_get is 0)) v ≡ typed_other is v
 same_other [] v = refl
 same_other (i ∷ is) v = refl
 
 pub same_typed : (own : ℕ) (t : Test) → typed_test own (test_of (comparison t)) ≡ typed_test own t
-same_typed own t = rw (same_field t.what, same_sign t.sign, same_other t.step t.other)
+same_typed own t = rw (same_field (field_numbered t.what), same_sign (sign_numbered t.sign), same_other t.step t.other)

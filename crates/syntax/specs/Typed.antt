@@ -1,12 +1,11 @@
 -- The text of a pattern: steps are named a to f, in their order, and every never x.
 -- Assumes nothing: these are definitions.
-use Rattle.std.specs.Prelude.{ℕ, zero, suc, ◌+◌, min, List, [], ◌∷◌, ◌++◌, codes, decimal, slice_index}
+use Rattle.std.specs.Prelude.{ℕ, zero, suc, ◌+◌, min, List, [], ◌∷◌, ◌++◌, codes, decimal}
 use Rattle.timeline.specs.Lists.{flat}
 use Rattle.patterns.specs.declared.fields.Sign.{Sign}
 use Rattle.patterns.specs.declared.fields.Sign.TheVariants.{Equal, Below, NotBelow}
 use Rattle.patterns.specs.Codes.{field_numbered, sign_numbered}
 use Rattle.patterns.specs.Patterns.{Test, Never, Step, Pattern}
-use Rattle.patterns.specs.Kept.{kept_tests, kept_nevers}
 use Rattle.syntax.specs.declared.words.Word.TheVariants.{Of}
 use Rattle.syntax.specs.Words.{spelling}
 
@@ -60,10 +59,6 @@ typed_step_as letter s = flat typed_never s.never ++ typed_item s.kind letter s.
 
 abbrev pub typed_step : ℕ → Step → List ℕ
 typed_step n s = typed_step_as (step_letter n) s
-
--- the step that 67 words mean
-abbrev pub step_in : List ℕ → Step
-step_in words = record { kind = slice_index words 0; tests = kept_tests words 1; never = kept_nevers words 22 }
 
 -- steps from the n-th on
 unfoldable pub typed_steps : ℕ → List Step → List ℕ

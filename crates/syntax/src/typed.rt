@@ -1,8 +1,8 @@
 // The parts of a kept pattern as they are typed: steps under the letters a to f, in their order, and every never under x.
 ghost use Rattle.std.specs.Prelude.{◌≡◌, ◌<◌, [], ◌∷◌, slice_index, Some};
-ghost use Rattle.patterns.specs.Kept.{kept_tests, kept_pattern};
+ghost use Rattle.patterns.specs.Kept.{kept_tests, kept_pattern, step_in};
 ghost use Rattle.patterns.specs.Codes.{test_of};
-ghost use Rattle.syntax.specs.Typed.{joint, step_letter, step_in, typed_test, typed_item, typed_step_as, typed};
+ghost use Rattle.syntax.specs.Typed.{joint, step_letter, typed_test, typed_item, typed_step_as, typed};
 
 use crate::words::Word;
 use patterns::layout::{

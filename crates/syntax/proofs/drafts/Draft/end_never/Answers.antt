@@ -1,9 +1,10 @@
 use Rattle.std.proofs.Common.{[], ◌∷◌, ◌++◌, length, sym, ap, ◌∙◌}
 use Rattle.std.specs.List.{flat_map}
 use Rattle.timeline.specs.Lists.{each}
+use Rattle.timeline.proofs.Each.{each_append}
 use Rattle.patterns.specs.Kept.{test_cells}
 use Rattle.syntax.specs.Rows.{never_row}
-use Rattle.syntax.proofs.Growing.{each_push, flattened, length_each}
+use Rattle.syntax.proofs.Growing.{flattened, length_each}
 use Rattle.syntax.proofs.drafts.Draft.end_never.Goals as goal
 
 pub returns : goal.returns
@@ -21,7 +22,7 @@ returns c =
       steps = h.steps;
       names = h.names;
       nevers =
-          ap (each (λ v. v.items)) c.push.ensures.items ∙ each_push (λ v. v.items) d.nevers.items c.put-2.new.row ∙ ap (λ xs. xs ++ (c.put-2.new.row.items ∷ [])) h.nevers
-          ∙ ap (λ row. each never_row w.nevers ++ (row ∷ [])) never ∙ sym (each_push never_row w.nevers (record { kind = k; tests = w.tests }));
+          ap (each (λ v. v.items)) c.push.ensures.items ∙ each_append (λ v. v.items) d.nevers.items (c.put-2.new.row ∷ []) ∙ ap (λ xs. xs ++ (c.put-2.new.row.items ∷ [])) h.nevers
+          ∙ ap (λ row. each never_row w.nevers ++ (row ∷ [])) never ∙ sym (each_append never_row w.nevers (record { kind = k; tests = w.tests } ∷ []));
       tests = c.clear.ensures;
     }

@@ -1,7 +1,7 @@
 use Rattle.std.proofs.Common.{◌≡◌, ◌-◌, ◌*◌, ◌/◌, [], ◌++◌, length, length-drop, length-take, length-take-le, min, get_or, take, drop, codes, decimal, sym, ap, ◌∙◌, rules, arith}
 use Rattle.std.proofs.Output.{has_written_append, has_written_of_eq}
-use Rattle.patterns.specs.Kept.{kept_count, kept_step, kept_pattern}
-use Rattle.syntax.specs.Typed.{step_letter, step_in, typed_step_as, typed_step, typed_steps}
+use Rattle.patterns.specs.Kept.{step_in, kept_count, kept_step, kept_pattern}
+use Rattle.syntax.specs.Typed.{step_letter, typed_step_as, typed_step, typed_steps}
 use Rattle.syntax.proofs.Parts.{part_within, part_slice, part_in, turns, at_most_few, step_part}
 use Rattle.syntax.proofs.Texts.{so_far, so_far_none, so_far_more, all_steps}
 use Rattle.syntax.proofs.typed.TypedPatternDisplay.fmt.Goals as goal
