@@ -1,5 +1,6 @@
 -- Parts of a kept pattern: words that stand in longer words, and what they mean there.
-use Rattle.std.proofs.Common.{◌≡◌, ℕ, zero, suc, ◌+◌, ◌*◌, ◌/◌, ◌<◌, ◌≤◌, List, [], ◌∷◌, length, length-take, length-take-le, min, get_or, take, drop, drop-drop, sym, refl, ap, ◌∙◌, arith}
+use Rattle.std.proofs.Common.{◌≡◌, ℕ, zero, suc, ◌+◌, ◌*◌, ◌/◌, ◌<◌, ◌≤◌, List, [], ◌∷◌, length, length-take, length-take-le, length-drop, mul_comm, suc-mul, min, get_or, take, drop, drop-drop, sym, refl, ap, ◌∙◌, arith}
+use Rattle.std.proofs.Math.Nat.{le-div_iff_mul-le}
 use Rattle.std.proofs.lemmas.List.{get_or-take, get_or-drop}
 use Rattle.std.proofs.lemmas.Bool.Decides.{nat_tests}
 use Rattle.std.specs.Simd.{first_chunks}
@@ -26,17 +27,32 @@ part_within c s p at m b n f g l = λ j h. let e : at + (b + j) ≡ at + b + j =
 pub part_slice : (c : List ℕ) (b n : ℕ) → Part c (take n (drop b c)) b n
 part_slice c b n = λ j l. get_or-take n (drop b c) j 0 l ∙ get_or-drop b c j 0
 
--- what a loop over the first m of the chunks of a part comes to
-pub part_in : (n i m : ℕ) (s : List ℕ) (xs : List (List ℕ)) → xs ≡ first_chunks n (length s / n) s → length xs ≡ length s / n → i < length (take m xs) → Part s (get_or (take m xs) i []) (n * i) n
-part_in n i m s xs e l h =
-    let some : length (take m xs) ≡ min m (length xs) = length-take m xs in
-    λ j o.
-    ap (λ p. get_or p j 0) (get_or-take m xs i [] (omega arith) ∙ ap (λ ys. get_or ys i []) e ∙ chunk_at n (length s / n) i s [] (omega arith))
-    ∙ part_slice s (n * i) n j o
+-- a slice that lies within
+slice_long : (c : List ℕ) (b l : ℕ) → b + l ≤ length c → length (take l (drop b c)) ≡ l
+slice_long c b l h = length-take-le l (drop b c) (omega (arith, length-drop b c))
 
--- how often it turns
-pub turns : {A : Type 0} (m i : ℕ) (xs : List A) → m ≤ length xs → i ≤ length (take m xs) → length (take m xs) ≤ i → i ≡ m
-turns m i xs a b c = let e : length (take m xs) ≡ m = length-take-le m xs a in omega arith
+-- a loop over the first m of the chunks of a slice
+module _ (c : List ℕ) (b l n m : ℕ) (chunks : List (List ℕ)) (fits : b + l ≤ length c) (some : 0 < n)
+    (count : length chunks ≡ length (take l (drop b c)) / n) where
+  chunk_count : length chunks ≡ l / n
+  chunk_count = count ∙ ap (λ k. k / n) (slice_long c b l fits)
+
+  -- what it comes to
+  pub chunk_part : (i : ℕ) → chunks ≡ first_chunks n (length (take l (drop b c)) / n) (take l (drop b c)) → i < length (take m chunks) → Part c (get_or (take m chunks) i []) (b + n * i) n
+  chunk_part i front on =
+      let s = take l (drop b c) in
+      let first = length-take m chunks in
+      let whole : suc i ≤ l / n = omega (arith, chunk_count) in
+      let end : n * i + n ≤ l = rw (mul_comm n i, ← suc-mul i n) ((le-div_iff_mul-le some).0 whole) in
+      let part : Part s (get_or (take m chunks) i []) (n * i) n =
+      λ j h.
+      ap (λ p. get_or p j 0) (get_or-take m chunks i [] (omega arith) ∙ ap (λ ys. get_or ys i []) front ∙ chunk_at n (length s / n) i s [] (omega (arith, count)))
+      ∙ part_slice s (n * i) n j h in
+      part_within c s (get_or (take m chunks) i []) b l (n * i) n (part_slice c b l) part end
+
+  -- how often it turns
+  pub turns : (i : ℕ) → m ≤ l / n → i ≤ length (take m chunks) → length (take m chunks) ≤ i → i ≡ m
+  turns i few low high = let e : length (take m chunks) ≡ m = length-take-le m chunks (omega (arith, chunk_count)) in omega arith
 
 pub at_most_few : (m n : ℕ) → at_most m n ≤ m
 at_most_few m n = grind (arith, nat_tests)

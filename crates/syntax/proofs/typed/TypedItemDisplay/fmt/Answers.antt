@@ -1,10 +1,10 @@
-use Rattle.std.proofs.Common.{◌≡◌, ℕ, ◌+◌, ◌-◌, ◌*◌, ◌/◌, [], ◌∷◌, ◌++◌, length, length-drop, length-take, length-take-le, min, get_or, take, drop, codes, decimal, sym, ap, ◌∙◌, append_assoc, rules, arith}
+use Rattle.std.proofs.Common.{◌≡◌, ℕ, ◌+◌, ◌-◌, ◌*◌, ◌/◌, [], ◌∷◌, ◌++◌, length, length-drop, length-take, length-take-le, min, get_or, take, drop, codes, decimal, sym, ap, ◌∙◌, append_assoc, rules, arith, lit<}
 use Rattle.std.proofs.Output.{has_written_append, has_written_of_eq}
 use Rattle.patterns.specs.Patterns.{Test}
 use Rattle.patterns.specs.Kept.{at_most, kept_test, kept_tests}
 use Rattle.patterns.specs.Codes.{test_of}
 use Rattle.syntax.specs.Typed.{joint, typed_test, typed_tests}
-use Rattle.syntax.proofs.Parts.{part_within, part_slice, part_in, turns, at_most_few, test_part}
+use Rattle.syntax.proofs.Parts.{chunk_part, turns, at_most_few, test_part}
 use Rattle.syntax.proofs.Texts.{so_far, so_far_none, so_far_more, all_tests, same_typed}
 use Rattle.syntax.proofs.typed.TypedItemDisplay.fmt.Goals as goal
 
@@ -21,13 +21,8 @@ loop-i-preserved g c =
     let part = get_or (take c.at_most-count.result chunks) i [] in
     let before = c.loop-i.invariant p in
     let wrote = c.write-in-loop-i.ensures.writes before.plain (search rules) in
-    let slice = take 20 (drop 2 words) in
     let long : length words ≡ 22 = search rules in
-    let rest : length (drop 2 words) ≡ length words - 2 = length-drop 2 words in
-    let room : length slice ≡ 20 = length-take-le 20 (drop 2 words) (omega arith) in
-    let four : length chunks ≡ length slice / 5 = c.as_chunks.ensures.front_len in
-    let turn : length (take c.at_most-count.result chunks) ≡ min c.at_most-count.result (length chunks) = length-take c.at_most-count.result chunks in
-    let there = part_within words slice part 2 20 (5 * i) 5 (part_slice words 2 20) (part_in 5 i c.at_most-count.result slice chunks c.as_chunks.ensures.front c.as_chunks.ensures.front_len c.loop-i-test.true) (omega arith) in
+    let there = chunk_part words 2 20 5 c.at_most-count.result chunks (omega arith) (lit< tt) c.as_chunks.ensures.front_len i c.as_chunks.ensures.front c.loop-i-test.true in
     let place : 2 + 5 * i + 0 ≡ 1 + 1 + 5 * i = omega arith in
     let same = test_part words part (2 + 5 * i) 5 there 0 (omega arith) ∙ ap (kept_test words) place in
     let text : c.joint-joint.result.now ++ typed_test own (test_of c.from.result) ≡ joint i ++ typed_test own (kept_test words (1 + 1 + 5 * i)) =
@@ -48,14 +43,10 @@ returns-clause-writes g c =
     let loop = c.loop-i.invariant one.plain in
     let last = c.write-2.ensures.writes loop.plain ok in
     let chunks = c.as_chunks.result.0.now in
-    let slice = take 20 (drop 2 words) in
     let long : length words ≡ 22 = search rules in
-    let rest : length (drop 2 words) ≡ length words - 2 = length-drop 2 words in
-    let room : length slice ≡ 20 = length-take-le 20 (drop 2 words) (omega arith) in
-    let four : length chunks ≡ length slice / 5 = c.as_chunks.ensures.front_len in
     let few = at_most_few 4 (get_or words 1 0) in
     let count = c.at_most-count.ensures in
-    let all = turns c.at_most-count.result c.loop-i.i chunks (omega arith) c.loop-i.auto.i-end c.loop-i-test.false in
+    let all = turns words 2 20 5 c.at_most-count.result chunks (omega arith) (lit< tt) c.as_chunks.ensures.front_len c.loop-i.i (omega arith) c.loop-i.auto.i-end c.loop-i-test.false in
     let parts : ℕ → Test → _ = λ j t. joint j ++ typed_test own t in
     let tests : ℕ → Test = λ j. kept_test words (1 + 1 + 5 * j) in
     let whole : so_far parts tests c.loop-i.i ≡ typed_tests own (kept_tests words 1) =

@@ -1,8 +1,8 @@
-use Rattle.std.proofs.Common.{◌≡◌, ◌-◌, ◌*◌, ◌/◌, [], ◌++◌, length, length-drop, length-take, length-take-le, min, get_or, take, drop, codes, decimal, sym, ap, ◌∙◌, rules, arith}
+use Rattle.std.proofs.Common.{◌≡◌, ◌-◌, ◌*◌, ◌/◌, [], ◌++◌, length, length-drop, length-take, length-take-le, min, get_or, take, drop, codes, decimal, sym, ap, ◌∙◌, rules, arith, lit<}
 use Rattle.std.proofs.Output.{has_written_append, has_written_of_eq}
 use Rattle.patterns.specs.Kept.{step_in, kept_count, kept_step, kept_pattern}
 use Rattle.syntax.specs.Typed.{step_letter, typed_step_as, typed_step, typed_steps}
-use Rattle.syntax.proofs.Parts.{part_within, part_slice, part_in, turns, at_most_few, step_part}
+use Rattle.syntax.proofs.Parts.{chunk_part, turns, at_most_few, step_part}
 use Rattle.syntax.proofs.Texts.{so_far, so_far_none, so_far_more, all_steps}
 use Rattle.syntax.proofs.typed.TypedPatternDisplay.fmt.Goals as goal
 
@@ -18,14 +18,8 @@ loop-i-preserved g c =
     let part = get_or (take c.at_most-count.result chunks) i [] in
     let before = c.loop-i.invariant p in
     let wrote = c.write.ensures.writes before.plain (search rules) in
-    let slice = take 402 (drop 3 words) in
     let long : length words ≡ 405 = search rules in
-    let rest : length (drop 3 words) ≡ length words - 3 = length-drop 3 words in
-    let room : length slice ≡ 402 = length-take-le 402 (drop 3 words) (omega arith) in
-    let six : length chunks ≡ length slice / 67 = c.as_chunks.ensures.front_len in
-    let turn : length (take c.at_most-count.result chunks) ≡ min c.at_most-count.result (length chunks) = length-take c.at_most-count.result chunks in
-    let there =
-    part_within words slice part 3 402 (67 * i) 67 (part_slice words 3 402) (part_in 67 i c.at_most-count.result slice chunks c.as_chunks.ensures.front c.as_chunks.ensures.front_len c.loop-i-test.true) (omega arith) in
+    let there = chunk_part words 3 402 67 c.at_most-count.result chunks (omega arith) (lit< tt) c.as_chunks.ensures.front_len i c.as_chunks.ensures.front c.loop-i-test.true in
     let same = step_part words part i there in
     has_written_of_eq _ _ _ _ _
     (
@@ -42,14 +36,10 @@ returns-clause-writes g c =
     let loop = c.loop-i.invariant plain in
     let last = c.write-2.ensures.writes loop.plain ok in
     let chunks = c.as_chunks.result.0.now in
-    let slice = take 402 (drop 3 words) in
     let long : length words ≡ 405 = search rules in
-    let rest : length (drop 3 words) ≡ length words - 3 = length-drop 3 words in
-    let room : length slice ≡ 402 = length-take-le 402 (drop 3 words) (omega arith) in
-    let six : length chunks ≡ length slice / 67 = c.as_chunks.ensures.front_len in
     let few = at_most_few 6 (get_or words 2 0) in
     let count = c.at_most-count.ensures in
-    let all = turns c.at_most-count.result c.loop-i.i chunks (omega arith) c.loop-i.auto.i-end c.loop-i-test.false in
+    let all = turns words 3 402 67 c.at_most-count.result chunks (omega arith) (lit< tt) c.as_chunks.ensures.front_len c.loop-i.i (omega arith) c.loop-i.auto.i-end c.loop-i-test.false in
     let whole : so_far typed_step (kept_step words) c.loop-i.i ≡ typed_steps 0 (kept_pattern words).steps =
     ap (so_far typed_step (kept_step words)) (all ∙ count) ∙ all_steps (kept_step words) (kept_count words) in
     has_written_of_eq _ _ _ _ _ (ap (λ xs. xs ++ (codes "within " ++ (decimal (get_or words 0 0) ++ (codes " late " ++ decimal (get_or words 1 0))))) whole)

@@ -1,10 +1,10 @@
-use Rattle.std.proofs.Common.{◌≡◌, ℕ, ◌+◌, ◌-◌, ◌*◌, ◌/◌, [], ◌++◌, length, length-drop, length-take, length-take-le, min, get_or, take, drop, sym, ap, ◌∙◌, rules, arith}
+use Rattle.std.proofs.Common.{◌≡◌, ℕ, ◌+◌, ◌-◌, ◌*◌, ◌/◌, [], ◌++◌, length, length-drop, length-take, length-take-le, min, get_or, take, drop, sym, ap, ◌∙◌, rules, arith, lit<}
 use Rattle.std.proofs.Output.{has_written_append, has_written_of_eq}
 use Rattle.timeline.specs.Lists.{flat}
 use Rattle.patterns.specs.Patterns.{Never}
 use Rattle.patterns.specs.Kept.{at_most, kept_tests, kept_never, kept_nevers}
 use Rattle.syntax.specs.Typed.{typed_item, typed_never}
-use Rattle.syntax.proofs.Parts.{part_within, part_slice, part_front, part_in, turns, at_most_few, tests_part, never_part}
+use Rattle.syntax.proofs.Parts.{part_front, chunk_part, turns, at_most_few, tests_part, never_part}
 use Rattle.syntax.proofs.Texts.{so_far, so_far_none, so_far_more, all_nevers}
 use Rattle.syntax.proofs.typed.TypedStepDisplay.fmt.Goals as goal
 
@@ -20,15 +20,8 @@ loop-part-preserved g c =
     let part = get_or (take c.at_most-count.result chunks) i [] in
     let before = c.loop-part.invariant p in
     let wrote = c.write.ensures.writes before.plain (search rules) in
-    let slice = take 44 (drop 23 words) in
     let long : length words ≡ 67 = search rules in
-    let rest : length (drop 23 words) ≡ length words - 23 = length-drop 23 words in
-    let room : length slice ≡ 44 = length-take-le 44 (drop 23 words) (omega arith) in
-    let two : length chunks ≡ length slice / 22 = c.as_chunks.ensures.front_len in
-    let turn : length (take c.at_most-count.result chunks) ≡ min c.at_most-count.result (length chunks) = length-take c.at_most-count.result chunks in
-    let there =
-    part_within words slice part 23 44 (22 * i) 22 (part_slice words 23 44) (part_in 22 i c.at_most-count.result slice chunks c.as_chunks.ensures.front c.as_chunks.ensures.front_len c.loop-part-test.true)
-    (omega arith) in
+    let there = chunk_part words 23 44 22 c.at_most-count.result chunks (omega arith) (lit< tt) c.as_chunks.ensures.front_len i c.as_chunks.ensures.front c.loop-part-test.true in
     let place : 23 + 22 * i + 0 ≡ 22 + 1 + 22 * i = omega arith in
     let same = never_part words part (23 + 22 * i) 22 there 0 (omega arith) ∙ ap (kept_never words) place in
     let parts : ℕ → Never → _ = λ j v. typed_never v in
@@ -44,14 +37,10 @@ returns-clause-writes g c =
     let loop = c.loop-part.invariant plain in
     let last = c.write-2.ensures.writes loop.plain ok in
     let chunks = c.as_chunks.result.0.now in
-    let slice = take 44 (drop 23 words) in
     let long : length words ≡ 67 = search rules in
-    let rest : length (drop 23 words) ≡ length words - 23 = length-drop 23 words in
-    let room : length slice ≡ 44 = length-take-le 44 (drop 23 words) (omega arith) in
-    let two : length chunks ≡ length slice / 22 = c.as_chunks.ensures.front_len in
     let few = at_most_few 2 (get_or words 22 0) in
     let count = c.at_most-count.ensures in
-    let all = turns c.at_most-count.result c.loop-part.part-index chunks (omega arith) c.loop-part.auto.part-index-end c.loop-part-test.false in
+    let all = turns words 23 44 22 c.at_most-count.result chunks (omega arith) (lit< tt) c.as_chunks.ensures.front_len c.loop-part.part-index (omega arith) c.loop-part.auto.part-index-end c.loop-part-test.false in
     let parts : ℕ → Never → _ = λ j v. typed_never v in
     let nevers : ℕ → Never = λ j. kept_never words (22 + 1 + 22 * j) in
     let whole : so_far parts nevers c.loop-part.part-index ≡ flat typed_never (kept_nevers words 22) =
