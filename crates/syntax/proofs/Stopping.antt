@@ -1,7 +1,6 @@
 -- A text is refused at the first byte with which no pattern can go on.
 use Rattle.std.proofs.Common.{◌≡◌, ℕ, suc, ◌+◌, ◌<◌, ◌≤◌, List, [], ◌∷◌, ◌++◌, length, get_or, take, Some, None, Option, sym, refl, ap, ◌∙◌, append_assoc, arith}
 use Rattle.std.proofs.lemmas.List.{take_more}
-use Rattle.patterns.specs.Patterns.{Pattern}
 use Rattle.syntax.specs.declared.expects.Expected.{Expected}
 use Rattle.syntax.specs.Reading.{State, means, refused, settled, ready, next, wanted, whole, by_some, ended, runs, begun, reads}
 use Rattle.syntax.specs.Laws.{RefusedExactly}

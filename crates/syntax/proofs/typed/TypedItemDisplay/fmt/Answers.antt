@@ -1,4 +1,4 @@
-use Rattle.std.proofs.Common.{◌≡◌, ℕ, ◌+◌, ◌-◌, ◌*◌, ◌/◌, [], ◌∷◌, ◌++◌, length, length-drop, length-take, length-take-le, min, get_or, take, drop, codes, decimal, sym, ap, ◌∙◌, append_assoc, rules, arith, lit<}
+use Rattle.std.proofs.Common.{◌≡◌, ℕ, ◌+◌, ◌*◌, [], ◌∷◌, ◌++◌, length, get_or, take, codes, decimal, sym, ap, ◌∙◌, append_assoc, rules, arith, lit<}
 use Rattle.std.proofs.Output.{has_written_append, has_written_of_eq}
 use Rattle.patterns.specs.Patterns.{Test}
 use Rattle.patterns.specs.Kept.{at_most, kept_test, kept_tests}

@@ -1,4 +1,4 @@
-use Rattle.std.proofs.Common.{◌≡◌, ◌-◌, ◌*◌, ◌/◌, [], ◌++◌, length, length-drop, length-take, length-take-le, min, get_or, take, drop, codes, decimal, sym, ap, ◌∙◌, rules, arith, lit<}
+use Rattle.std.proofs.Common.{◌≡◌, [], ◌++◌, length, get_or, take, codes, decimal, sym, ap, ◌∙◌, rules, arith, lit<}
 use Rattle.std.proofs.Output.{has_written_append, has_written_of_eq}
 use Rattle.patterns.specs.Kept.{step_in, kept_count, kept_step, kept_pattern}
 use Rattle.syntax.specs.Typed.{step_letter, typed_step_as, typed_step, typed_steps}

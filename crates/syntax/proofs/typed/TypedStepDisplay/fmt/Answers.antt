@@ -1,4 +1,4 @@
-use Rattle.std.proofs.Common.{◌≡◌, ℕ, ◌+◌, ◌-◌, ◌*◌, ◌/◌, [], ◌++◌, length, length-drop, length-take, length-take-le, min, get_or, take, drop, sym, ap, ◌∙◌, rules, arith, lit<}
+use Rattle.std.proofs.Common.{◌≡◌, ℕ, ◌+◌, ◌*◌, [], ◌++◌, length, get_or, take, sym, ap, ◌∙◌, rules, arith, lit<}
 use Rattle.std.proofs.Output.{has_written_append, has_written_of_eq}
 use Rattle.timeline.specs.Lists.{flat}
 use Rattle.patterns.specs.Patterns.{Never}
