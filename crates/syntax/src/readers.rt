@@ -11,6 +11,7 @@ use arrayvec::ArrayVec;
 pub struct Reader {
     pub stand: Stand,
     pub draft: Draft,
+    // They stand for a state that is sound.
     pub ghost sound: { ∥ IsSound stand draft ∥₁ },
 }
 
