@@ -1,34 +1,23 @@
 -- Rows in the order in which they are told are the rows of each last event, one after the other.
-use Rattle.std.proofs.Common.{◌≡◌, ℕ, Bool, true, false, not, ◌&&◌, List, [], ◌∷◌, ◌++◌, length, sym, refl, ap, ◌∙◌, ap₂, arith}
+use Rattle.std.proofs.Common.{◌≡◌, Bool, true, false, not, ◌&&◌, List, [], ◌∷◌, ◌++◌, length, sym, refl, ap, ◌∙◌, ap₂, arith}
 use mathlib.Core.Bool.{false≢true}
 use Rattle.std.proofs.lemmas.Bool.Decides.{nat_tests}
 use Rattle.timeline.specs.declared.events.Event.{Event}
 use Rattle.timeline.specs.Lists.{any, those, flat, run}
 use Rattle.timeline.specs.Order.{nth, before, last_of, sorted, each_heard}
-use Rattle.timeline.proofs.Lists.{All, Pairs, all_map, all_any, all_both, all_flat, all_those, those_all, those_same, those_those, pairs_those, pairs_flat}
+use Rattle.timeline.proofs.Lists.{All, Pairs, all_map, all_any, all_both, all_those, those_all, those_same, those_those, pairs_those}
 use Rattle.timeline.proofs.Each.{flat_each, flat_same}
 use Rattle.timeline.proofs.Sorting.{isort, Ord, Strict, ins_front, all_isort, ord_isort, those_isort, those_split}
 use Rattle.timeline.proofs.Order.{before_irr, sorted_strict}
 use Rattle.patterns.specs.Patterns.{Step, Pattern}
-use Rattle.rows.specs.Rows.{goes_on, rows, row_before, told_before, in_order}
+use Rattle.rows.specs.Rows.{rows, row_before, told_before, in_order}
 use Rattle.rows.specs.SearchLaws.{same, Ahead, Rises}
 use Rattle.rows.proofs.Order.{told_order, in_order_is}
-use Rattle.rows.proofs.Rows.{Begins, rows_begin, first}
+use Rattle.rows.proofs.Rows.{first, rows_pairs}
 use Rattle.rows.proofs.Picks.{or_right}
 use Rattle.rows.proofs.Positions.{each_nth}
-use Rattle.rows.proofs.Reach.{last_snoc}
+use Rattle.rows.proofs.Reach.{some_cons, rows_last}
 use Rattle.rows.proofs.Rising.{ahead_all}
-
--- rows among rising events rise, event by event
-rows_rise : (all : List Event) (w : ℕ) → Pairs (λ x y. before x y ≡ true) all → (ss : List Step) (es : List Event) → Pairs (λ r s. row_before r s ≡ true) (rows all w ss es)
-unfolding rows
-rows_rise all w p [] es = (tt, tt)
-rows_rise all w p (s ∷ ss) es =
-    pairs_flat (λ x y. before x y ≡ true) (λ r s. row_before r s ≡ true) (λ e. rows all w ss (es ++ e ∷ [])) (λ e. rows_rise all w p ss (es ++ e ∷ []))
-    (λ x y q. all_map (Begins (es ++ x ∷ [])) (λ r. All (λ s. row_before r s ≡ true) (rows all w ss (es ++ y ∷ [])))
-    (λ r b. all_map (Begins (es ++ y ∷ [])) (λ s. row_before r s ≡ true) (λ t c. first es x y q r t b c) (rows all w ss (es ++ y ∷ [])) (rows_begin all w ss (es ++ y ∷ [])))
-    (rows all w ss (es ++ x ∷ [])) (rows_begin all w ss (es ++ x ∷ [])))
-    (those (goes_on all w es s) all) (pairs_those (λ x y. before x y ≡ true) (goes_on all w es s) all p)
 
 pairs_with : {A : Type 0} (R S : A → A → Type 0) (Q : A → Type 0) → ((x y : A) → Q x → Q y → R x y → S x y) → (xs : List A) → All Q xs → Pairs R xs → Pairs S xs
 pairs_with R S Q f [] q p = tt
@@ -64,16 +53,6 @@ in_all : (h : List Event) → All (In h) h
 unfolding any
 in_all [] = tt
 in_all (x ∷ h) = (rw (before_irr x) refl, all_map (In h) (In (x ∷ h)) (λ e k. in_more x e h k) h (in_all h))
-
--- rows end with one of the events
-lasts : (h : List Event) (w : ℕ) (s : Step) (ss : List Step) (es : List Event) → All (λ r. In h (last_of r)) (rows h w (s ∷ ss) es)
-unfolding rows
-lasts h w s [] es =
-    all_flat (λ e. In h e × (goes_on h w es s e ≡ true)) (λ r. In h (last_of r)) (λ e. rows h w [] (es ++ e ∷ [])) (λ e g. (rw (last_snoc es e) g.0, tt))
-    (those (goes_on h w es s) h) (all_those (In h) (goes_on h w es s) h (in_all h))
-lasts h w s (t ∷ ss) es =
-    all_flat (λ e. In h e × (goes_on h w es s e ≡ true)) (λ r. In h (last_of r)) (λ e. rows h w (t ∷ ss) (es ++ e ∷ [])) (λ e g. lasts h w t ss (es ++ e ∷ []))
-    (those (goes_on h w es s) h) (all_those (In h) (goes_on h w es s) h (in_all h))
 
 -- what is the same as a later event is later
 later : (x z : Event) (h : List Event) → Ahead x h → In h z → before x z ≡ true
@@ -143,8 +122,8 @@ all_by_last p es s ss hd =
     let h = sorted es in
     let R = rows h p.within (s ∷ ss) [] in
     in_order_is R
-    ∙ by_last h (sorted_rises es hd) (isort told_before R) (ord_isort told_before told_order R) (all_isort told_before (λ r. In h (last_of r)) R (lasts h p.within s ss []))
+    ∙ by_last h (sorted_rises es hd) (isort told_before R) (ord_isort told_before told_order R) (all_isort told_before (λ r. In h (last_of r)) R (rows_last (In h) h p.within (in_all h) (s ∷ ss) [] (some_cons s ss (In h (last_of [])))))
     ∙ flat_same (λ e. those (λ r. same e (last_of r)) (isort told_before R)) (λ e. those (λ r. same e (last_of r)) R) h
     (all_any (λ e. those (λ r. same e (last_of r)) (isort told_before R) ≡ those (λ r. same e (last_of r)) R)
-    (λ e. one_in_order e R (rows_rise h p.within (sorted_strict es hd) (s ∷ ss) [])) h)
+    (λ e. one_in_order e R (rows_pairs (λ x y. before x y ≡ true) (λ r t. row_before r t ≡ true) first h p.within (sorted_strict es hd) (s ∷ ss) [])) h)
     ∙ ap (flat (λ e. those (λ r. same e (last_of r)) R)) (sym (each_nth h)) ∙ flat_each (λ e. those (λ r. same e (last_of r)) R) (nth h) (run 0 (length h))

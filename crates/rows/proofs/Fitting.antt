@@ -14,12 +14,17 @@ use Rattle.rows.proofs.Nevers.{broken}
 abbrev pub last_place : List ℕ → ℕ
 last_place places = get_or places (length places - 1) 0
 
+-- the last of m that are taken behind the first
+pub taken_last : (at : List ℕ) (m : ℕ) → 0 < m → get_or (take m (drop 1 at)) (m - 1) 0 ≡ get_or at m 0
+taken_last at m k =
+    let q : 1 + (m - 1) ≡ m = omega arith in
+    get_or-take m (drop 1 at) (m - 1) 0 (omega arith) ∙ get_or-drop 1 at (m - 1) 0 ∙ ap (λ j. get_or at j 0) q
+
 -- of the steps before one
 pub place_before : (at : List ℕ) (m : ℕ) → 0 < m → m < length at → last_place (take m (drop 1 at)) ≡ get_or at m 0
 place_before at m k l =
     let n : length (take m (drop 1 at)) ≡ m = omega (arith, length-take m (drop 1 at), length-drop 1 at) in
-    let q : 1 + (m - 1) ≡ m = omega arith in
-    ap (λ j. get_or (take m (drop 1 at)) (j - 1) 0) n ∙ get_or-take m (drop 1 at) (m - 1) 0 (omega arith) ∙ get_or-drop 1 at (m - 1) 0 ∙ ap (λ j. get_or at j 0) q
+    ap (λ j. get_or (take m (drop 1 at)) (j - 1) 0) n ∙ taken_last at m k
 
 module _ (h : List Event) (w : ℕ) (s : Step) (places : List ℕ) (earlier : List Event) (p : ℕ) (e : Event) (st : earlier ≡ each (nth h) places) (is : e ≡ nth h p) where
   fits_is : fits h w s places p

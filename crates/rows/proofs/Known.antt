@@ -1,6 +1,5 @@
 -- What is known stays known: the rows that are known as an event comes, and those known before.
 use Rattle.std.proofs.Common.{◌≡◌, ℕ, ◌<◌, ◌≤◌, Bool, true, false, not, ◌&&◌, ltb, leb, ◌⊎◌, List, [], ◌∷◌, ◌++◌, sym, refl, ap, ◌∙◌, subst, ap₂, inl, inr, append-nil, arith}
-use mathlib.Core.Bool.{false≢true}
 use lib.Dec.{leb-zero}
 use Rattle.std.proofs.lemmas.Bool.Decides.{nat_tests}
 use Rattle.std.proofs.lemmas.Bool.{ltb-false, leb-true, le-leb, lt-ltb, not-true, not-false, and_parts, and_left, and_right, le-ltb}
@@ -16,7 +15,7 @@ use Rattle.rows.specs.Known.{heard_to}
 use Rattle.rows.specs.Laws.{KnownStays, Grows}
 use Rattle.rows.specs.Newly.{settled, fresh}
 use Rattle.rows.proofs.Order.{told_order, in_order_is, grows_proof}
-use Rattle.rows.proofs.Reach.{Short, Reach, rows_last, short_none, last_snoc, before_down}
+use Rattle.rows.proofs.Reach.{Short, Reach, some_cons, rows_last, short_none, last_snoc, before_down}
 use Rattle.rows.proofs.Same.{those_in_order, bad, goes_same, rows_same}
 
 settled_down : (mark : ℕ) (f a b : Event) → before a b ≡ false → settled mark f a ≡ true → settled mark f b ≡ true
@@ -90,10 +89,6 @@ module _ (w : ℕ) (mark : ℕ) (f : Event) where
         ∙ (ap₂ ◌++◌ (those_all earlier es (all_map (λ e. e.heard < f.heard) (λ e. earlier e ≡ true) (λ e l. lt-ltb e.heard f.heard l) es h))
         (those_none earlier (f ∷ []) (le-ltb f.heard f.heard (omega arith), tt))
         ∙ append-nil es))
-
-some_cons : (s : Step) (ss : List Step) (X : Type 0) → none_of (s ∷ ss) ≡ true → X
-unfolding none_of
-some_cons s ss X n = absurd (false≢true n)
 
 -- what is known now is what was known before, then what is fresh
 pub ended_is : (w : ℕ) (s : Step) (ss : List Step) (es : List Event) (f : Event) (old new : ℕ) → each_heard 0 (es ++ f ∷ []) ≡ true → old ≤ f.time → old ≤ new

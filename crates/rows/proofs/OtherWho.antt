@@ -1,5 +1,5 @@
 -- A candidate of another who than a test asks for may not be chosen.
-use Rattle.std.proofs.Common.{◌≡◌, ℕ, ◌+◌, ◌-◌, ◌<◌, false, eqb, ◌≢◌, List, length, get_or, take, drop, set, sym, refl, ap, ◌∙◌, ap₂, arith, length-drop, length-take, get_or-drop, get_or-take}
+use Rattle.std.proofs.Common.{◌≡◌, ℕ, ◌+◌, ◌-◌, ◌<◌, false, eqb, ◌≢◌, List, length, get_or, take, drop, set, sym, refl, ap, ◌∙◌, ap₂, arith, length-drop, length-take}
 use Rattle.std.proofs.lemmas.List.{get_or-set_same, get_or-set_other, length-set}
 use Rattle.timeline.specs.declared.events.Event.{Event}
 use Rattle.timeline.specs.Lists.{each}
@@ -13,7 +13,7 @@ use Rattle.rows.specs.Finding.{row_ok}
 use Rattle.rows.proofs.Picks.{eqb_turned}
 use Rattle.rows.proofs.Positions.{nth_each}
 use Rattle.rows.proofs.Chosen.{chosen_set}
-use Rattle.rows.proofs.Fitting.{fits_not}
+use Rattle.rows.proofs.Fitting.{taken_last, fits_not}
 use Rattle.rows.proofs.LevelOk.{along_stands, ok_not, ok_last_not}
 
 module _ (h : List Event) (c at : List ℕ) (row : List Event) (d : ℕ) (la : length at ≡ 6) (lr : length row ≡ 6) (few : d < kept_count c) (z : d ≡ 0 → ⊥)
@@ -57,8 +57,7 @@ module _ (h : List Event) (c at : List ℕ) (row : List Event) (d : ℕ) (la : l
     own_place : nth (each (nth h) (take d (drop 1 at₁))) (d - 1) ≡ nth h i
     own_place =
         let l : d - 1 < length (take d (drop 1 at₁)) = omega (arith, length-take d (drop 1 at₁), length-drop 1 at₁, length-set at d i, deep) in
-        let q : 1 + (d - 1) ≡ d = omega arith in
-        nth_each h (take d (drop 1 at₁)) (d - 1) l ∙ ap (nth h) (get_or-take d (drop 1 at₁) (d - 1) 0 (omega arith) ∙ get_or-drop 1 at₁ (d - 1) 0 ∙ ap (λ n. get_or at₁ n 0) q ∙ here)
+        nth_each h (take d (drop 1 at₁)) (d - 1) l ∙ ap (nth h) (taken_last at₁ d (omega arith) ∙ here)
 
     pub last_not : eqb (nth h i).who (get_or row 0 nothing).who ≡ false → unchosen
     last_not t =

@@ -80,6 +80,10 @@ rows_reach all w (s ∷ ss) es f =
     (rows_reach all w ss (es ++ e ∷ []) (short_snoc w es e n f)))
     (those (goes_on all w es s) all) (all_those (λ e. Unit) (goes_on all w es s) all (all_any (λ e. Unit) (λ e. tt) all))
 
+pub some_cons : (s : Step) (ss : List Step) (X : Type 0) → none_of (s ∷ ss) ≡ true → X
+unfolding none_of
+some_cons s ss X n = absurd (true≢false (sym n))
+
 -- the last of a row is one of all
 pub rows_last : (M : Event → Type 0) (all : List Event) (w : ℕ) → All M all → (ss : List Step) (es : List Event) → (none_of ss ≡ true → M (last_of es))
     → All (λ r. M (last_of r)) (rows all w ss es)

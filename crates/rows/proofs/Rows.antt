@@ -36,21 +36,25 @@ fork es x y (inr q) r s b c = turn (told_apart s r (first es y x q s r c b))
     turn (inl k) = inr k
     turn (inr k) = inl k
 
-pub rows_apart : (all : List Event) (w : ℕ) → Pairs (Apart before) all → (ss : List Step) (es : List Event) → Pairs (Apart told_before) (rows all w ss es)
-unfolding rows
-rows_apart all w p [] es = (tt, tt)
-rows_apart all w p (s ∷ ss) es =
-    pairs_flat (Apart before) (Apart told_before) (λ e. rows all w ss (es ++ e ∷ [])) (λ e. rows_apart all w p ss (es ++ e ∷ []))
-    (λ x y q. all_map (Begins (es ++ x ∷ [])) (λ r. All (Apart told_before r) (rows all w ss (es ++ y ∷ [])))
-    (λ r b. all_map (Begins (es ++ y ∷ [])) (Apart told_before r) (λ t c. fork es x y q r t b c) (rows all w ss (es ++ y ∷ [])) (rows_begin all w ss (es ++ y ∷ [])))
-    (rows all w ss (es ++ x ∷ [])) (rows_begin all w ss (es ++ x ∷ [])))
-    (those (goes_on all w es s) all) (pairs_those (Apart before) (goes_on all w es s) all p)
+-- what holds of two rows where they part holds of each row and each later one
+module _ (S : Event → Event → Type 0) (R : List Event → List Event → Type 0)
+    (part : (es : List Event) (x y : Event) → S x y → (r s : List Event) → Begins (es ++ x ∷ []) r → Begins (es ++ y ∷ []) s → R r s)
+    (all : List Event) (w : ℕ) (p : Pairs S all) where
+  pub rows_pairs : (ss : List Step) (es : List Event) → Pairs R (rows all w ss es)
+  unfolding rows
+  rows_pairs [] es = (tt, tt)
+  rows_pairs (s ∷ ss) es =
+      pairs_flat S R (λ e. rows all w ss (es ++ e ∷ [])) (λ e. rows_pairs ss (es ++ e ∷ []))
+      (λ x y q. all_map (Begins (es ++ x ∷ [])) (λ r. All (R r) (rows all w ss (es ++ y ∷ [])))
+      (λ r b. all_map (Begins (es ++ y ∷ [])) (R r) (λ t c. part es x y q r t b c) (rows all w ss (es ++ y ∷ [])) (rows_begin all w ss (es ++ y ∷ [])))
+      (rows all w ss (es ++ x ∷ [])) (rows_begin all w ss (es ++ x ∷ [])))
+      (those (goes_on all w es s) all) (pairs_those S (goes_on all w es s) all p)
 
 -- the rows of a pattern stand in strict order
 pub rows_strict : (p : Pattern) (es : List Event) → each_heard 0 es ≡ true → Strict told_before (all_rows p es)
 rows_strict p es h =
     rw in_order_is (strict_isort told_before told_order (rows (sorted es) p.within p.steps [])
-    (rows_apart (sorted es) p.within (sorted_apart es h) p.steps []))
+    (rows_pairs (Apart before) (Apart told_before) fork (sorted es) p.within (sorted_apart es h) p.steps []))
 
 pub told_once_proof : ToldOnce
 unfolding ToldOnce

@@ -1,5 +1,5 @@
 -- Positions of the last but one event from which something forbidden lies before the last event may not be chosen.
-use Rattle.std.proofs.Common.{◌≡◌, ℕ, suc, ◌+◌, ◌-◌, ◌<◌, ◌≤◌, Bool, true, false, ltb, ◌≢◌, List, length, get_or, take, drop, set, sym, refl, ap, ◌∙◌, arith, length-drop, length-take, get_or-drop, get_or-take}
+use Rattle.std.proofs.Common.{◌≡◌, ℕ, suc, ◌+◌, ◌-◌, ◌<◌, ◌≤◌, Bool, true, false, ltb, ◌≢◌, List, length, get_or, take, drop, set, sym, refl, ◌∙◌, arith, length-drop, length-take}
 use Rattle.std.proofs.Math.Bool.{and-false}
 use Rattle.std.proofs.lemmas.List.{get_or-set_same, get_or-set_other, length-set}
 use Rattle.std.proofs.lemmas.Bool.{ne_eqb, ltb-true, ltb-false}
@@ -14,6 +14,7 @@ use Rattle.rows.specs.Search.{Barren, chosen}
 use Rattle.rows.specs.Finding.{forbidden, fits, row_ok, row_lo, space}
 use Rattle.rows.proofs.Positions.{any_at}
 use Rattle.rows.proofs.Passing.{none_of_is}
+use Rattle.rows.proofs.Fitting.{place_before}
 use Rattle.rows.proofs.Chosen.{chosen_set}
 use Rattle.rows.proofs.Pruning.{Starts}
 use Rattle.rows.proofs.LevelOk.{ok_last_not}
@@ -36,10 +37,7 @@ module _ (h : List Event) (c at : List ℕ) (d : ℕ) (la : length at ≡ 6) (fe
       let ne : 0 ≢ d = λ q. z (sym q) in
       let top : get_or at₁ 0 0 ≡ get_or at 0 0 = get_or-set_other at d 0 i 0 ne in
       let long : length ps ≡ d = omega (arith, length-take d (drop 1 at₁), length-drop 1 at₁, length-set at d i) in
-      let m : length ps - 1 ≡ d - 1 = omega arith in
-      let q : 1 + (d - 1) ≡ d = omega arith in
-      let last : get_or ps (length ps - 1) 0 ≡ i =
-      ap (λ n. get_or ps n 0) m ∙ get_or-take d (drop 1 at₁) (d - 1) 0 (omega arith) ∙ get_or-drop 1 at₁ (d - 1) 0 ∙ ap (λ n. get_or at₁ n 0) q ∙ here in
+      let last : get_or ps (length ps - 1) 0 ≡ i = place_before at₁ d (omega arith) (omega (arith, length-set at d i)) ∙ here in
       let b = broken_fits h (kept_pattern c).within (kept_step c d) ps (get_or at₁ 0 0) i r (none_of_is ps ∙ ne_eqb (length ps) 0 (λ e. omega arith)) last l (omega arith) (f (each (nth h) ps)) in
       let o = ok_last_not h c at₁ d z few (omega (arith, length-set at d i)) end b in
       sym (rw (chosen_set at d d i (omega arith), here) at o)
