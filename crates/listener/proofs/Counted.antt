@@ -19,10 +19,10 @@ use Rattle.rows.proofs.Newly.{newly_held}
 use Rattle.rows.proofs.AllFound.{rest_told}
 use Rattle.listener.specs.declared.head.Phase.TheVariants.{Waiting, Telling}
 use Rattle.listener.specs.declared.head.Head.{Head}
-use Rattle.listener.specs.Machine.{room, no_places, a_head, below_run, memory_of, settled}
+use Rattle.listener.specs.Machine.{room, no_places, below_run, memory_of, settled}
 use Rattle.listener.specs.Holding.{held_list, waiting_head, zero_ring, waiting_memory}
 use Rattle.listener.proofs.Fronts.{Lower, front_passes, back_fails, time_lower, below_run_is, below_run_drop, below_run_most, below_run_grows}
-use Rattle.listener.proofs.Steps.{Sound}
+use Rattle.listener.proofs.Steps.{Sound, head_ok}
 use Rattle.listener.proofs.Holding.{Numbered, numbered_more, came, new, with_came, stale_is, forgotten, known_is, upto_is, heard_those}
 use Rattle.listener.proofs.Counts.{zero_long, listed_few, mark, mark₁, known, stale, upto, telling}
 
@@ -173,12 +173,7 @@ module _ (p : Pattern) (n : ℕ) (es : List Event) (f : Event) (num : Numbered n
       let g = gone_first in
       record {
         places = refl;
-        ok = head_ok (suc n) (latest (new p n es f num in_time)) s (length listed) k u gone l₁ t r a d b g;
+        ok = head_ok (suc n) (latest (new p n es f num in_time)) s (length listed) k u gone l₁ t r a (omega (arith, d, b)) b (omega (arith, g, b));
         wide = wide;
         long = laid_long zero_ring s listed ∙ zero_long;
       }
-    where
-      head_ok :
-          (c t s l k u g : ℕ) → c < 4611686018427387904 → t < 4611686018427387904 → s < capacity → l ≤ suc room → k ≤ u → u ≤ l → g ≤ u
-          → a_head (record { count = c; latest = t; start = s; len = l; known = k; upto = u; stale = g; at = no_places }) ≡ true
-      head_ok c t s l k u g h₁ h₂ h₃ h₄ h₅ h₆ h₇ = grind (arith, nat_tests)

@@ -36,6 +36,17 @@ module _ (h : List Event) (p : Pattern) (upto : ℕ) (c : Cursor) (f : Found) (f
       next_of None = c
       next_of (Some g) = g.next
 
+  next_is : (path : List ℕ) (more : List (List ℕ)) → to_come h p upto c ≡ path ∷ more → Behind path
+  unfolding next_found
+  next_is path more q = first_behind (placed (length h) upto (length p.steps) c) path more (to_come h p upto c) q found
+
+  -- so the search is at the deepest level
+  pub next_depth : f.next.depth ≡ length p.steps - 1
+  unfolding GoesOn
+  next_depth =
+      let g = goes_on_proof h p upto c f found in
+      ap (λ (x : Cursor). x.depth) (next_is g.0 (to_come h p upto f.next) g.1)
+
   -- behind the levels the places are as they were
   place_behind :
       (path : List ℕ) → length path ≡ length p.steps → 1 ≤ length path → Behind path
@@ -55,7 +66,7 @@ module _ (h : List Event) (p : Pattern) (upto : ℕ) (c : Cursor) (f : Found) (f
       (path : List ℕ) → length path ≡ length p.steps → Behind path → Placed (length h) upto (length p.steps) f.next → Small upto → Smalls c.at
       → (i : ℕ) → Small (get_or f.next.at i 0)
   place_small path long is w u a i =
-      let deepest : f.next.depth ≡ length p.steps - 1 = ap (λ (x : Cursor). x.depth) is in
+      let deepest = next_depth in
       elim (cases_order i f.next.depth) [
         | inl e ↦ (let l = w.here in rw e (omega arith))
         | inr (inl l) ↦ omega (arith, w.before i l)
@@ -63,9 +74,8 @@ module _ (h : List Event) (p : Pattern) (upto : ℕ) (c : Cursor) (f : Found) (f
       ]
 
   pub places_small : Small upto → Smalls c.at → Smalls f.next.at
-  unfolding GoesOn next_found
+  unfolding GoesOn
   places_small u a =
       let g = goes_on_proof h p upto c f found in
-      let is = first_behind (placed (length h) upto (length p.steps) c) g.0 (to_come h p upto f.next) (to_come h p upto c) g.1 found in
       let w = placed_parts (length h) upto (length p.steps) f.next g.5 in
-      All-from_get_or Small f.next.at 0 (λ i l. place_small g.0 g.3 is w u a i)
+      All-from_get_or Small f.next.at 0 (λ i l. place_small g.0 g.3 (next_is g.0 (to_come h p upto f.next) g.1) w u a i)

@@ -1,5 +1,5 @@
 -- What the code does is what the machine does, case by case, over plain variables.
-use Rattle.std.proofs.Common.{◌≡◌, ℕ, ◌+◌, ◌-◌, ◌%◌, ◌<◌, ◌≤◌, Bool, true, false, ltb, max, List, ◌++◌, length, get_or, take, drop, Some, None, Option, Ok, Result, sym, refl, ap, ◌∙◌, subst, ap₂, arith, le-ltb, lt-ltb}
+use Rattle.std.proofs.Common.{◌≡◌, ℕ, ◌+◌, ◌-◌, ◌%◌, ◌<◌, ◌≤◌, Bool, true, false, ltb, max, List, ◌++◌, length, take, drop, Some, None, Option, Ok, Result, sym, refl, ap, ◌∙◌, subst, ap₂, arith, le-ltb, lt-ltb}
 use Rattle.std.proofs.lemmas.List.{length-take-le}
 use Rattle.std.proofs.lemmas.Bool.Decides.{nat_tests as by_tests}
 use mir.Val.{bool_byte}
@@ -7,7 +7,8 @@ use Rattle.timeline.specs.declared.events.Event.{Event}
 use Rattle.timeline.specs.Lists.{pick}
 use Rattle.timeline.specs.Ring.{capacity, events, with_put, with_forgotten}
 use Rattle.patterns.specs.Patterns.{Pattern, named}
-use Rattle.patterns.specs.Kept.{at_most, kept_pattern, kept_count}
+use Rattle.patterns.specs.Kept.{kept_pattern, kept_count}
+use Rattle.patterns.proofs.Steps.{steps_six}
 use Rattle.rows.specs.declared.search.Cursor.{Cursor}
 use Rattle.rows.specs.declared.search.Found.{Found}
 use Rattle.rows.specs.Finding.{next_found}
@@ -109,9 +110,6 @@ module _ (ph : Phase) (h : Head) (cells ring : List ℕ) (c : Cursor) where
       (t : Result Told Refusal) (m₁ out out₁ : List ℕ) → None ≡ found → Did (settled ph h cells ring) t m₁ out out₁ → Did (tell_from ph h cells ring c) t m₁ out out₁
   tells_none t m₁ out out₁ e d = subst (λ (st : Stepped). Did st t m₁ out out₁) (sym (tells_by None e)) d
 
-  six_most : (n k : ℕ) → k ≡ at_most 6 n → k ≤ 6
-  six_most n k e = grind (arith, by_tests)
-
   row_told :
       (xs out out₁ : List ℕ) (k n : ℕ) → n ≡ k → k ≤ 6 → length xs ≡ 6 → out₁ ≡ take n xs ++ drop n out → ActTold (tells (take k xs)) (Ok (Row n)) out out₁
   unfolding ActTold
@@ -124,7 +122,7 @@ module _ (ph : Phase) (h : Head) (cells ring : List ℕ) (c : Cursor) where
       → m₁ ≡ memory_of ph (with_places h f.next.at) cells ring → out₁ ≡ take n f.numbers ++ drop n out → Did (tell_from ph h cells ring c) (Ok (Row n)) m₁ out out₁
   tells_row f n m₁ out out₁ e k s m w =
       subst (λ (st : Stepped). Did st (Ok (Row n)) m₁ out out₁) (sym (tells_by (Some f) e))
-      (record { memory = m; told = row_told f.numbers out out₁ (kept_count cells) n k (six_most (get_or cells 2 0) (kept_count cells) refl) s w })
+      (record { memory = m; told = row_told f.numbers out out₁ (kept_count cells) n k (steps_six cells) s w })
 
 -- AN EVENT THAT COUNTS
 abbrev with_len : Head → ℕ → Head

@@ -1,13 +1,16 @@
 -- Fronts of a list in order: how many events at its beginning pass a test that none passes behind one that fails.
-use Rattle.std.proofs.Common.{◌≡◌, ℕ, zero, suc, ◌+◌, ◌-◌, ◌<◌, ◌≤◌, Bool, true, false, not, ltb, List, [], ◌∷◌, length, drop, Some, None, Option, sym, refl, ap, ◌∙◌, add-one, arith, le-ltb, lt-ltb}
+use Rattle.std.proofs.Common.{◌≡◌, ℕ, zero, suc, ◌+◌, ◌-◌, ◌<◌, ◌≤◌, Bool, true, false, not, ltb, List, [], ◌∷◌, length, get_or, drop, Some, None, Option, sym, refl, ap, ◌∙◌, arith, le-ltb, lt-ltb}
 use Rattle.std.specs.Option.{MatchOption, IfSome, is_some, unwrap_or}
-use Rattle.std.proofs.lemmas.List.{drop_all}
+use Rattle.std.specs.List.{prefix_len}
+use Rattle.std.proofs.lemmas.List.{get_or-drop, length-drop}
+use Rattle.std.proofs.lemmas.List.Sums.{prefix_len-le-length, prefix_len_is}
 use Rattle.std.proofs.lemmas.Bool.Decides.{nat_tests}
 use Rattle.timeline.specs.declared.events.Event.{Event}
 use Rattle.timeline.specs.Lists.{those}
-use Rattle.timeline.specs.Order.{before, nth}
+use Rattle.timeline.specs.Order.{before, nth, nothing}
 use Rattle.timeline.proofs.Lists.{All, all_map, those_none, those_all}
 use Rattle.timeline.proofs.Sorting.{Ord}
+use Rattle.timeline.proofs.Order.{nth_is}
 use Rattle.listener.specs.Machine.{below_run}
 
 -- a test that holds of all that is not behind one of which it holds
@@ -84,34 +87,14 @@ unfolding below_run
 below_run_grows a b [] l = omega arith
 below_run_grows a b (e ∷ es) l = let ih = below_run_grows a b es l in grind (arith, nat_tests)
 
+-- a run is what std calls a prefix
+run_is : (b : ℕ) (es : List Event) → below_run b es ≡ prefix_len (λ e. ltb e.time b) es
+unfolding below_run
+run_is b [] = refl
+run_is b (e ∷ es) = let ih = run_is b es in grind (arith, nat_tests)
+
 pub below_run_most : (b : ℕ) (es : List Event) → below_run b es ≤ length es
-unfolding below_run
-below_run_most b [] = omega arith
-below_run_most b (e ∷ es) = let ih = below_run_most b es in grind (arith, nat_tests)
-
-drop_nth : (es : List Event) (i : ℕ) → i < length es → drop i es ≡ nth es i ∷ drop (suc i) es
-unfolding nth
-drop_nth [] i l = absurd (omega arith)
-drop_nth (e ∷ es) zero l = refl
-drop_nth (e ∷ es) (suc i) l = drop_nth es i (omega arith)
-
--- one event more of a run, and where it stops
-pub run_goes_on : (b i : ℕ) (es : List Event) → i < length es → (nth es i).time < b → i + below_run b (drop i es) ≡ (i + 1) + below_run b (drop (i + 1) es)
-unfolding below_run
-run_goes_on b i es l t =
-    let next : i + 1 ≡ suc i = add-one i in
-    let yes : ltb (nth es i).time b ≡ true = lt-ltb (nth es i).time b t in
-    rw next (ap (λ (xs : List Event). i + below_run b xs) (drop_nth es i l) ∙ rw yes (omega arith))
-
-pub run_stops : (b i : ℕ) (es : List Event) → i < length es → b ≤ (nth es i).time → below_run b (drop i es) ≡ 0
-unfolding below_run
-run_stops b i es l t =
-    let fails : ltb (nth es i).time b ≡ false = le-ltb (nth es i).time b t in
-    ap (below_run b) (drop_nth es i l) ∙ rw fails
-
-pub run_ends : (b i : ℕ) (es : List Event) → length es ≤ i → below_run b (drop i es) ≡ 0
-unfolding below_run
-run_ends b i es l = ap (below_run b) (drop_all i es l)
+below_run_most b es = omega (arith, run_is b es, prefix_len-le-length (λ e. ltb e.time b) es)
 
 -- what a look along a run finds: the first event that is not below, or the end
 pub run_found :
@@ -121,30 +104,25 @@ pub run_found :
     → unwrap_or r len ≡ from + below_run b (drop from es)
 run_found b from n len es r long same behind found = go r found
   where
-    along : (d i : ℕ) → i + d ≤ length es → ((k : ℕ) → i ≤ k → k < i + d → (nth es k).time < b) → below_run b (drop (i + d) es) ≡ 0 → i + d ≡ i + below_run b (drop i es)
-    along zero i short below stop =
-        let here : i ≡ i + 0 = omega arith in
-        omega (arith, ap (λ (x : ℕ). below_run b (drop x es)) here ∙ stop)
-    along (suc d) i short below stop =
-        let next : i + 1 + d ≡ i + suc d = omega arith in
-        let rest =
-        along d (i + 1) (omega (arith, next)) (λ k l u. below k (omega arith) (omega (arith, next))) (ap (λ (x : ℕ). below_run b (drop x es)) next ∙ stop) in
-        sym next ∙ rest ∙ sym (run_goes_on b i es (omega arith) (below i (omega arith) (omega arith)))
+    at : (k : ℕ) → ltb (get_or (drop from es) k nothing).time b ≡ ltb (nth es (from + k)).time b
+    at k = ap (λ (e : Event). ltb e.time b) (get_or-drop from es k nothing ∙ sym (nth_is es (from + k)))
 
-    to : (i : ℕ) → from ≤ i → i ≤ length es → ((k : ℕ) → from ≤ k → k < i → (nth es k).time < b) → below_run b (drop i es) ≡ 0 → i ≡ from + below_run b (drop from es)
+    to : (i : ℕ) → from ≤ i → i ≤ length es → ((k : ℕ) → from ≤ k → k < i → (nth es k).time < b) → (i < length es → b ≤ (nth es i).time) → i ≡ from + below_run b (drop from es)
     to i l short below stop =
         let whole : from + (i - from) ≡ i = omega arith in
-        sym whole
-        ∙ along (i - from) from (omega (arith, whole)) (λ k u v. below k u (omega (arith, whole))) (ap (λ (x : ℕ). below_run b (drop x es)) whole ∙ stop)
+        let left = length-drop from es in
+        let is =
+        prefix_len_is (λ e. ltb e.time b) (drop from es) (i - from) nothing (omega (arith, left)) (λ k u. at k ∙ lt-ltb _ b (below (from + k) (omega arith) (omega arith)))
+        (λ u. at (i - from) ∙ ap (λ (k : ℕ). ltb (nth es k).time b) whole ∙ le-ltb _ b (stop (omega (arith, left, u)))) in
+        omega (arith, run_is b (drop from es), is)
 
     go : (r : Option ℕ)
         → MatchOption r ((k : ℕ) → from ≤ k → k < len → k < n → (nth es k).time < b)
         (λ i. (from ≤ i) × (i < len) × (i < n → b ≤ (nth es i).time) × ((k : ℕ) → from ≤ k → k < i → k < n → (nth es k).time < b))
         → unwrap_or r len ≡ from + below_run b (drop from es)
-    go None below = to len behind (omega (arith, long, same)) (λ k u v. below k u v (omega (arith, same))) (run_ends b len es (omega (arith, long, same)))
+    go None below = to len behind (omega (arith, long, same)) (λ k u v. below k u v (omega (arith, same))) (λ u. absurd (omega (arith, long, same, u)))
     go (Some i) at =
-        to i at.0 (omega (arith, long, same, at.1)) (λ k u v. at.3 k u v (omega (arith, same, at.1)))
-        (run_stops b i es (omega (arith, long, same, at.1)) (at.2 (omega (arith, same, at.1))))
+        to i at.0 (omega (arith, long, same, at.1)) (λ k u v. at.3 k u v (omega (arith, same, at.1))) (λ u. at.2 (omega (arith, same, at.1)))
 
 -- a test of what stands at a held place
 pub below_held :

@@ -1,10 +1,9 @@
 -- What the listener is told, case by case: each check hands on its value, or it is refused and nothing is changed.
-use Rattle.std.proofs.Common.{◌≡◌, ℕ, ◌+◌, ◌≤◌, true, false, List, length, get_or, take, drop, Some, None, Ok, Err, Option, Result, sym, refl, ap, ◌∙◌, subst, ap₂, arith, rules}
+use Rattle.std.proofs.Common.{◌≡◌, ℕ, ◌+◌, ◌≤◌, true, false, List, length, take, drop, Some, None, Ok, Err, Result, sym, refl, ap, ◌∙◌, arith, rules}
 use Rattle.std.proofs.lemmas.List.{same_lists, places, length-take-le, length-drop}
 use Rattle.std.proofs.lemmas.Slice.{between-put_mid, drop-put_mid}
 use borrow.Rule.Slice.PartMut.{put_mid}
 use Rattle.timeline.specs.declared.events.Event.{Event}
-use Rattle.timeline.specs.Lists.{pick}
 use Rattle.timeline.specs.Ring.{events}
 use Rattle.patterns.specs.Patterns.{Pattern}
 use Rattle.patterns.specs.Limits.{a_pattern, an_event}
@@ -22,8 +21,8 @@ use Rattle.listener.specs.declared.acts.Told.{Told}
 use Rattle.listener.specs.declared.acts.Refusal.{Refusal}
 use Rattle.listener.specs.declared.acts.Told.TheVariants.{Waits, Late as TooLate}
 use Rattle.listener.specs.declared.acts.Refusal.TheVariants.{NoPattern, OutOfTurn, NoRoom}
-use Rattle.listener.specs.Engine.{waits, refused, Stepped}
-use Rattle.listener.specs.Machine.{memory_long, memory_of, cells_of, ring_of, head_at, with_some, stepped, blank, tell_from, begun, hear, counted_head, turned, heard, event_of, came, ending_head, ended, resumed, gone_on}
+use Rattle.listener.specs.Engine.{refused}
+use Rattle.listener.specs.Machine.{memory_long, memory_of, cells_of, ring_of, head_at, stepped, blank, tell_from, begun, hear, counted_head, turned, heard, event_of, came, ending_head, ended, resumed, gone_on}
 use Rattle.listener.specs.Entry.{refusal_number, ActTold, Did}
 
 -- a refusal leaves all as it was
@@ -31,30 +30,19 @@ refuses : (e : Refusal) (m out : List ℕ) → Did (stepped m (refused (refusal_
 unfolding ActTold
 refuses e m out = record { memory = refl; told = (refl, refl) }
 
-moved : (st st₁ : Stepped) (t : Result Told Refusal) (m₁ out out₁ : List ℕ) → st ≡ st₁ → Did st t m₁ out out₁ → Did st₁ t m₁ out out₁
-moved st st₁ t m₁ out out₁ e d = subst (λ (x : Stepped). Did x t m₁ out out₁) e d
-
 module _ (m out : List ℕ) (p : Pattern) where
   pub begun_out : None ≡ head_at New m → Did (begun m p) (Err OutOfTurn) m out out
   unfolding begun
-  begun_out e = subst (λ (o : Option Head). Did (with_some o (stepped m (refused 2)) (λ h. pick (a_pattern p) (stepped (memory_of Waiting blank (pattern_cells p) (ring_of m)) waits) (stepped m (refused 1)))) (Err OutOfTurn) m out out) e (refuses OutOfTurn m out)
-
-  by_pattern : (h : Head) → Some h ≡ head_at New m → pick (a_pattern p) (stepped (memory_of Waiting blank (pattern_cells p) (ring_of m)) waits) (stepped m (refused 1)) ≡ begun m p
-  unfolding begun
-  by_pattern h e = ap (λ (o : Option Head). with_some o (stepped m (refused 2)) (λ h. pick (a_pattern p) (stepped (memory_of Waiting blank (pattern_cells p) (ring_of m)) waits) (stepped m (refused 1)))) e
+  begun_out e = rw (sym e) (refuses OutOfTurn m out)
 
   pub begun_none : (h : Head) (m₁ : List ℕ) → Some h ≡ head_at New m → a_pattern p ≡ false → m₁ ≡ m → Did (begun m p) (Err NoPattern) m₁ out out
-  begun_none h m₁ e bad same =
-      let step : stepped m (refused 1) ≡ begun m p = sym (rw bad) ∙ by_pattern h e in
-      subst (λ (x : List ℕ). Did (begun m p) (Err NoPattern) x out out) (sym same) (moved (stepped m (refused 1)) (begun m p) (Err NoPattern) m out out step (refuses NoPattern m out))
+  unfolding begun
+  begun_none h m₁ e bad same = rw (sym e, bad, same) (refuses NoPattern m out)
 
   pub begun_some :
       (h : Head) (m₁ : List ℕ) → Some h ≡ head_at New m → a_pattern p ≡ true → m₁ ≡ memory_of Waiting blank (pattern_cells p) (ring_of m) → Did (begun m p) (Ok Waits) m₁ out out
-  unfolding ActTold
-  begun_some h m₁ e ok is =
-      let st : Stepped = stepped (memory_of Waiting blank (pattern_cells p) (ring_of m)) waits in
-      let step : st ≡ begun m p = sym (rw ok) ∙ by_pattern h e in
-      moved st (begun m p) (Ok Waits) m₁ out out step (record { memory = is; told = (refl, refl) })
+  unfolding begun ActTold
+  begun_some h m₁ e ok is = rw (sym e, ok) (record { memory = is; told = (refl, refl) })
 
 -- the pattern's words lent, and given back
 pub cells_given : (a k : ℕ) (m r : List ℕ) → a + k ≤ length m → r ≡ take k (drop a m) → put_mid a k m r ≡ m
@@ -69,61 +57,29 @@ cells_new m r l k = between-put_mid 14 405 m r 419 (omega arith) k
 pub ring_as_was : (m r : List ℕ) → length m ≡ memory_long → length r ≡ 405 → ring_of (put_mid 14 405 m r) ≡ ring_of m
 ring_as_was m r l k = drop-put_mid 14 405 m r 419 (omega arith) (omega arith) k
 
-module _ (m out : List ℕ) (t k w v : ℕ) where
-  abbrev go : Head → Stepped
-  go h = pick (an_event (event_of h.count t k w v)) (heard h (cells_of m) (ring_of m) (event_of h.count t k w v)) (stepped m (refused 2))
-
-  pub came_out : None ≡ head_at Waiting m → Did (came m t k w v) (Err OutOfTurn) m out out
-  unfolding came
-  came_out e = subst (λ (o : Option Head). Did (with_some o (stepped m (refused 2)) go) (Err OutOfTurn) m out out) e (refuses OutOfTurn m out)
-
-  by_head : (h : Head) → Some h ≡ head_at Waiting m → go h ≡ came m t k w v
-  unfolding came
-  by_head h e = ap (λ (o : Option Head). with_some o (stepped m (refused 2)) go) e
-
-  pub came_misfit : (h : Head) → Some h ≡ head_at Waiting m → an_event (event_of h.count t k w v) ≡ false → Did (came m t k w v) (Err OutOfTurn) m out out
-  came_misfit h e bad =
-      let step : stepped m (refused 2) ≡ came m t k w v = sym (rw bad) ∙ by_head h e in
-      moved (stepped m (refused 2)) (came m t k w v) (Err OutOfTurn) m out out step (refuses OutOfTurn m out)
-
-  pub came_heard :
-      (h : Head) (x : Turn) (a : Result Told Refusal) (m₁ out₁ : List ℕ) → Some h ≡ head_at Waiting m → an_event (event_of h.count t k w v) ≡ true
-      → x ≡ hear (kept_pattern (cells_of m)) h (events (ring_of m) h.start h.len) (event_of h.count t k w v)
-      → Did (turned h (cells_of m) (ring_of m) (event_of h.count t k w v) x) a m₁ out out₁ → Did (came m t k w v) a m₁ out out₁
-  unfolding heard
-  came_heard h x a m₁ out₁ e ok q d =
-      let e₁ : Event = event_of h.count t k w v in
-      let step : turned h (cells_of m) (ring_of m) e₁ x ≡ came m t k w v = ap (turned h (cells_of m) (ring_of m) e₁) q ∙ (sym (rw ok) ∙ by_head h e) in
-      moved (turned h (cells_of m) (ring_of m) e₁ x) (came m t k w v) a m₁ out out₁ step d
-
 module _ (m out : List ℕ) where
   pub ended_out : None ≡ head_at Waiting m → Did (ended m) (Err OutOfTurn) m out out
   unfolding ended
-  ended_out e = subst (λ (o : Option Head). Did (with_some o (stepped m (refused 2)) (λ h. tell_from Ending (ending_head h) (cells_of m) (ring_of m) (begin_at h.known))) (Err OutOfTurn) m out out) e (refuses OutOfTurn m out)
+  ended_out e = rw (sym e) (refuses OutOfTurn m out)
 
   pub ended_told :
       (h : Head) (a : Result Told Refusal) (m₁ out₁ : List ℕ) → Some h ≡ head_at Waiting m → Did (tell_from Ending (ending_head h) (cells_of m) (ring_of m) (begin_at h.known)) a m₁ out out₁
       → Did (ended m) a m₁ out out₁
   unfolding ended
-  ended_told h a m₁ out₁ e d =
-      subst (λ (o : Option Head). Did (with_some o (stepped m (refused 2)) (λ h. tell_from Ending (ending_head h) (cells_of m) (ring_of m) (begin_at h.known))) a m₁ out out₁) e d
-
-  abbrev on : Option Head → Option Head → Stepped
-  on x y = with_some x (with_some y (stepped m (refused 2)) (resumed Ending m)) (resumed Telling m)
-
-  on_is : (x y : Option Head) → x ≡ head_at Telling m → y ≡ head_at Ending m → on x y ≡ gone_on m
-  unfolding gone_on
-  on_is x y p q = ap₂ on p q
+  ended_told h a m₁ out₁ e d = rw (sym e) d
 
   pub gone_out : None ≡ head_at Telling m → None ≡ head_at Ending m → Did (gone_on m) (Err OutOfTurn) m out out
-  gone_out p q = moved (stepped m (refused 2)) (gone_on m) (Err OutOfTurn) m out out (on_is None None p q) (refuses OutOfTurn m out)
+  unfolding gone_on
+  gone_out p q = rw (sym p, sym q) (refuses OutOfTurn m out)
 
   pub gone_telling : (h : Head) (a : Result Told Refusal) (m₁ out₁ : List ℕ) → Some h ≡ head_at Telling m → Did (resumed Telling m h) a m₁ out out₁ → Did (gone_on m) a m₁ out out₁
-  gone_telling h a m₁ out₁ p d = moved (resumed Telling m h) (gone_on m) a m₁ out out₁ (on_is (Some h) (head_at Ending m) p refl) d
+  unfolding gone_on
+  gone_telling h a m₁ out₁ p d = rw (sym p) d
 
   pub gone_ending :
       (h : Head) (a : Result Told Refusal) (m₁ out₁ : List ℕ) → None ≡ head_at Telling m → Some h ≡ head_at Ending m → Did (resumed Ending m h) a m₁ out out₁ → Did (gone_on m) a m₁ out out₁
-  gone_ending h a m₁ out₁ p q d = moved (resumed Ending m h) (gone_on m) a m₁ out out₁ (on_is None (Some h) p q) d
+  unfolding gone_on
+  gone_ending h a m₁ out₁ p q d = rw (sym p, sym q) d
 
 -- what was not kept is no pattern, since there was room
 pub not_kept : (e : NotKept) (row before after : List ℕ) → length before ≡ 405 → Keeps row before after (Err e) → (a_pattern (pattern_in row) ≡ false) × (after ≡ before)
@@ -133,25 +89,22 @@ not_kept NotAsLong row before after l k = absurd (k.0 l)
 pub cells_length : (m : List ℕ) → length m ≡ memory_long → length (take 405 (drop 14 m)) ≡ 405
 cells_length m l = length-take-le 405 (drop 14 m) (omega (arith, length-drop 14 m))
 
--- an event that was read from a row
-module _ (m out row : List ℕ) where
-  abbrev arrived : Stepped
-  arrived = came m (get_or row 0 0) (get_or row 1 0) (get_or row 2 0) (get_or row 3 0)
+-- an event comes
+module _ (m out : List ℕ) (t k w v : ℕ) where
+  pub no_turn : None ≡ head_at Waiting m → Did (came m t k w v) (Err OutOfTurn) m out out
+  unfolding came
+  no_turn e = rw (sym e) (refuses OutOfTurn m out)
 
-  pub no_turn : None ≡ head_at Waiting m → Did arrived (Err OutOfTurn) m out out
-  no_turn e = came_out m out (get_or row 0 0) (get_or row 1 0) (get_or row 2 0) (get_or row 3 0) e
-
-  module _ (h : Head) (e : Event) (is : e ≡ event_of h.count (get_or row 0 0) (get_or row 1 0) (get_or row 2 0) (get_or row 3 0)) (at : Some h ≡ head_at Waiting m) where
-    pub told_misfit : an_event e ≡ false → Did arrived (Err OutOfTurn) m out out
-    told_misfit bad = came_misfit m out (get_or row 0 0) (get_or row 1 0) (get_or row 2 0) (get_or row 3 0) h at (ap an_event (sym is) ∙ bad)
+  module _ (h : Head) (e : Event) (is : e ≡ event_of h.count t k w v) (at : Some h ≡ head_at Waiting m) where
+    pub told_misfit : an_event e ≡ false → Did (came m t k w v) (Err OutOfTurn) m out out
+    unfolding came
+    told_misfit bad = rw (sym at, ap an_event (sym is) ∙ bad) (refuses OutOfTurn m out)
 
     pub told_heard :
         (x : Turn) (a : Result Told Refusal) (m₁ out₁ : List ℕ) → an_event e ≡ true → x ≡ hear (kept_pattern (cells_of m)) h (events (ring_of m) h.start h.len) e
-        → Did (turned h (cells_of m) (ring_of m) e x) a m₁ out out₁ → Did arrived a m₁ out out₁
-    told_heard x a m₁ out₁ ok q d =
-        came_heard m out (get_or row 0 0) (get_or row 1 0) (get_or row 2 0) (get_or row 3 0) h x a m₁ out₁ at (ap an_event (sym is) ∙ ok)
-        (q ∙ ap (hear (kept_pattern (cells_of m)) h (events (ring_of m) h.start h.len)) is)
-        (subst (λ (y : Event). Did (turned h (cells_of m) (ring_of m) y x) a m₁ out out₁) is d)
+        → Did (turned h (cells_of m) (ring_of m) e x) a m₁ out out₁ → Did (came m t k w v) a m₁ out out₁
+    unfolding came heard
+    told_heard x a m₁ out₁ ok q d = rw (sym at, ap an_event (sym is) ∙ ok, sym is, sym q) d
 
 module _ (m out m₁ : List ℕ) (h : Head) (e : Event) where
   pub late_done : m₁ ≡ memory_of Waiting (counted_head h) (cells_of m) (ring_of m) → Did (turned h (cells_of m) (ring_of m) e Late) (Ok TooLate) m₁ out out

@@ -1,14 +1,15 @@
 -- What a step of the listener is from a memory that it wrote itself.
-use Rattle.std.proofs.Common.{◌≡◌, ℕ, true, List, length, None, refl, ◌∙◌, ap₂}
+use Rattle.std.proofs.Common.{◌≡◌, ℕ, suc, ◌<◌, ◌≤◌, true, List, length, None, refl, ◌∙◌, ap₂, arith}
 use Rattle.std.proofs.lemmas.Bool.{eq-eqb}
-use Rattle.timeline.specs.Ring.{ring_long}
+use Rattle.std.proofs.lemmas.Bool.Decides.{nat_tests}
+use Rattle.timeline.specs.Ring.{capacity, ring_long}
 use Rattle.patterns.specs.Limits.{an_event}
 use Rattle.rows.specs.SearchLaws.{begin_at}
 use Rattle.listener.specs.declared.head.Phase.{Phase}
 use Rattle.listener.specs.declared.head.Phase.TheVariants.{Waiting, Telling, Ending}
 use Rattle.listener.specs.declared.head.Head.{Head}
 use Rattle.listener.specs.Engine.{ToldIt, comes, ends, next}
-use Rattle.listener.specs.Machine.{memory_long, memory_of, a_head, head_at, tell_from, cursor_of, ending_head, event_of, heard, came, ended, resumed, gone_on, machine, own}
+use Rattle.listener.specs.Machine.{memory_long, room, no_places, memory_of, a_head, head_at, tell_from, cursor_of, ending_head, event_of, heard, came, ended, resumed, gone_on, machine, own}
 use Rattle.listener.proofs.Words.{ring_back, cells_back, memory_length, head_found}
 
 -- a state and the other parts of a memory that the listener can have written
@@ -17,6 +18,11 @@ pub record Sound (h : Head) (cells ring : List ℕ) : Type 0 where
   pub ok : a_head h ≡ true
   pub wide : length cells ≡ 405
   pub long : length ring ≡ ring_long
+
+pub head_ok :
+    (c t s l k u g : ℕ) → c < 4611686018427387904 → t < 4611686018427387904 → s < capacity → l ≤ suc room → k ≤ l → u ≤ l → g ≤ l
+    → a_head (record { count = c; latest = t; start = s; len = l; known = k; upto = u; stale = g; at = no_places }) ≡ true
+head_ok c t s l k u g h₁ h₂ h₃ h₄ h₅ h₆ h₇ = grind (arith, nat_tests)
 
 pub own_is : (m : List ℕ) (ev : ToldIt) → length m ≡ memory_long → own.step m ev ≡ machine m ev
 unfolding own

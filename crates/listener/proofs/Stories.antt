@@ -5,6 +5,7 @@ use Rattle.timeline.specs.declared.events.Event.{Event}
 use Rattle.timeline.specs.Lists.{pick, each, those}
 use Rattle.timeline.specs.Order.{last_of}
 use Rattle.timeline.proofs.Lists.{drop_front}
+use Rattle.timeline.proofs.Each.{each_append}
 use Rattle.patterns.specs.Patterns.{Pattern}
 use Rattle.rows.specs.Rows.{all_rows}
 use Rattle.rows.specs.Known.{heard_to, known_rows, too_late, numbers, newly, with_number}
@@ -59,11 +60,6 @@ ran_as e D a rs m ev k z t h =
     let all = tell_all e D a z rs m ev [] t in
     let same : runs (suc (length rs)) e m ev [] ≡ runs k e m ev [] = runs_one e (suc (length rs)) k m ev (λ q. end_ends a z (sym all.0 ∙ q)) h in
     (sym (ap (λ (r : Ran). r.end) same) ∙ all.0, sym (ap (λ (r : Ran). r.rows_told) same) ∙ all.1, subst (λ (r : Ran). D r.memory) same all.2)
-
-each_append : {A B : Type 0} (g : A → B) (xs ys : List A) → each g (xs ++ ys) ≡ each g xs ++ each g ys
-unfolding each
-each_append g [] ys = refl
-each_append g (x ∷ xs) ys = ap (λ r. g x ∷ r) (each_append g xs ys)
 
 -- what was known, and what becomes known
 pub known_more : (p : Pattern) (n : ℕ) (es : List Event) (f : Event) → Numbered n es → too_late p es f ≡ false

@@ -1,15 +1,15 @@
 -- A telling, row by row: from a cursor the listener tells all rows that are still to come, one an act, and then settles.
-use Rattle.std.proofs.Common.{◌≡◌, ℕ, suc, ◌-◌, ◌≤◌, Bool, true, false, List, [], ◌∷◌, length, take, drop, Some, None, Option, sym, refl, ap, ◌∙◌, subst, ap₂, arith}
-use Rattle.std.proofs.lemmas.List.{length-append, length-take, length-drop}
+use Rattle.std.proofs.Common.{◌≡◌, ℕ, suc, ◌-◌, ◌≤◌, true, List, [], ◌∷◌, ◌++◌, length, take, drop, Some, None, Option, sym, refl, ap, ◌∙◌, subst, ap₂, arith}
+use Rattle.std.proofs.lemmas.List.{length-append, length-take, length-drop, take-take, take_at}
 use Rattle.timeline.specs.declared.events.Event.{Event}
-use Rattle.timeline.specs.Lists.{pick, each}
+use Rattle.timeline.specs.Lists.{each}
 use Rattle.timeline.specs.Order.{nth}
 use Rattle.timeline.specs.Ring.{events}
 use Rattle.patterns.specs.Patterns.{Pattern}
 use Rattle.patterns.specs.Kept.{kept_pattern, kept_count}
 use Rattle.rows.specs.Known.{numbers}
 use Rattle.rows.specs.Search.{forward}
-use Rattle.rows.specs.Finding.{six, row_of, to_come, placed, found_first, next_found}
+use Rattle.rows.specs.Finding.{six, row_of, to_come, placed, next_found}
 use Rattle.rows.specs.SearchLaws.{GoesOn, IsOver}
 use Rattle.rows.proofs.Chosen.{length_forward}
 use Rattle.rows.proofs.Resuming.{goes_on_proof, is_over_proof}
@@ -18,9 +18,10 @@ use Rattle.rows.specs.declared.search.Found.{Found}
 use Rattle.listener.specs.declared.head.Phase.{Phase}
 use Rattle.listener.specs.declared.head.Head.{Head}
 use Rattle.listener.specs.Engine.{next, tells, Stepped}
-use Rattle.listener.specs.Machine.{memory_of, with_places, cursor_of, act_after, settled, told_or_settled, tell_from, own}
+use Rattle.listener.specs.Machine.{no_places, memory_of, with_places, cursor_of, act_after, settled, told_or_settled, tell_from, own}
 use Rattle.listener.proofs.Runs.{Telling}
 use Rattle.listener.proofs.Steps.{Sound}
+use Rattle.listener.proofs.Cursors.{next_depth}
 
 -- the words of a pattern
 pub record KeptAs (cells : List ℕ) (p : Pattern) : Type 0 where
@@ -42,31 +43,7 @@ length_row h path =
     ∙ omega (arith, length_each (nth h) (drop 1 (forward path)), length_each (nth h) (take 1 (forward path)), length-drop 1 (forward path), length-take 1 (forward path), length_forward path)
 
 take_six : (xs : List ℕ) → length xs ≤ 6 → take (length xs) (six xs) ≡ xs
-take_six [] l = refl
-take_six (a ∷ []) l = refl
-take_six (a ∷ b ∷ []) l = refl
-take_six (a ∷ b ∷ c ∷ []) l = refl
-take_six (a ∷ b ∷ c ∷ d ∷ []) l = refl
-take_six (a ∷ b ∷ c ∷ d ∷ e ∷ []) l = refl
-take_six (a ∷ b ∷ c ∷ d ∷ e ∷ f ∷ []) l = refl
-take_six (a ∷ b ∷ c ∷ d ∷ e ∷ f ∷ g ∷ xs) l = absurd (omega arith)
-
--- behind a row the search is at the deepest level
-first_depth :
-    (h : List Event) (p : Pattern) (c : Cursor) (f : Found) (b : Bool) (paths : List (List ℕ))
-    → pick b (found_first h p c paths) None ≡ Some f → f.next.depth ≡ length p.steps - 1
-unfolding found_first
-first_depth h p c f false paths q = let z : ◌≡◌ {A = ℕ} 0 1 = cc in absurd (omega arith)
-first_depth h p c f true [] q = let z : ◌≡◌ {A = ℕ} 0 1 = cc in absurd (omega arith)
-first_depth h p c f true (path ∷ paths) q = ap (λ (o : Option Found). depth_of o) (sym q)
-  where
-    depth_of : Option Found → ℕ
-    depth_of None = 0
-    depth_of (Some g) = g.next.depth
-
-next_depth : (h : List Event) (p : Pattern) (upto : ℕ) (c : Cursor) (f : Found) → next_found h p upto c ≡ Some f → f.next.depth ≡ length p.steps - 1
-unfolding next_found
-next_depth h p upto c f e = first_depth h p c f (placed (length h) upto (length p.steps) c) (to_come h p upto c) e
+take_six xs l = take-take (length xs) 6 (xs ++ no_places) l ∙ take_at xs no_places (length xs) refl
 
 -- the rows of paths, by numbers
 abbrev pub told : List Event → List (List ℕ) → List (List ℕ)

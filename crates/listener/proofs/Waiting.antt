@@ -22,10 +22,10 @@ use Rattle.listener.specs.declared.head.Phase.TheVariants.{Waiting, Telling, End
 use Rattle.listener.specs.declared.head.Head.{Head}
 use Rattle.listener.specs.Engine.{waits, late, over, refused, Stepped, ends}
 use Rattle.listener.specs.Promise.{said}
-use Rattle.listener.specs.Machine.{room, no_places, a_head, below_run, stale_with, tell_from, memory_of, settled, counted_head, ending_head, heard, own}
+use Rattle.listener.specs.Machine.{room, below_run, stale_with, tell_from, memory_of, settled, counted_head, ending_head, heard, own}
 use Rattle.listener.specs.Holding.{held_list, waiting_head, zero_ring, waiting_memory}
 use Rattle.listener.proofs.Runs.{Telling as TellsThen, Good, most, left_over}
-use Rattle.listener.proofs.Steps.{Sound, comes_waiting, ends_waiting, next_telling, next_ending}
+use Rattle.listener.proofs.Steps.{Sound, head_ok, comes_waiting, ends_waiting, next_telling, next_ending}
 use Rattle.listener.proofs.Tells.{KeptAs, told, tells_all}
 use Rattle.listener.proofs.Fronts.{front_passes, back_fails, time_lower, below_run_is, below_run_most}
 use Rattle.listener.proofs.Holding.{Numbered, numbered_later, numbered_more, heard_those, with_came, held_is}
@@ -58,7 +58,7 @@ module _ (p : Pattern) (kept : KeptAs (pattern_cells p) p) where
   sound n es s l r t few =
       record {
         places = refl;
-        ok = let k = below_run_most (heard_to p es + 1) (held_list p es) in grind (arith, by_tests);
+        ok = head_ok n (latest es) s (length (held_list p es)) _ 0 0 l t r (omega (arith, few)) (below_run_most (heard_to p es + 1) (held_list p es)) (omega arith) (omega arith);
         wide = kept.wide;
         long = laid_long zero_ring s (held_list p es) ∙ zero_long;
       }
@@ -202,15 +202,12 @@ module _ (p : Pattern) (kept : KeptAs (pattern_cells p) p) where
     sound_ending =
         record {
           places = refl;
-          ok = ok_ending n (latest es) at_slot (length all_held) known_ones (omega arith) w.early w.round w.few (below_run_most (mark + 1) all_held);
+          ok =
+              head_ok n (latest es) at_slot (length all_held) known_ones (length all_held) (length all_held) (omega arith) w.early w.round (omega (arith, w.few))
+              (below_run_most (mark + 1) all_held) (omega arith) (omega arith);
           wide = kept.wide;
           long = laid_long zero_ring at_slot all_held ∙ zero_long;
         }
-      where
-        ok_ending :
-            (c t s l k : ℕ) → c < time_limit → t < time_limit → s < capacity → l ≤ room → k ≤ l
-            → a_head (record { count = c; latest = t; start = s; len = l; known = k; upto = l; stale = l; at = no_places }) ≡ true
-        ok_ending c t s l k h₁ h₂ h₃ h₄ h₅ = grind (arith, by_tests)
 
     just_left : Just all_held (λ x. ltb mark x.time) known_ones (length all_held)
     just_left =

@@ -1,5 +1,5 @@
 -- The memory taken apart and put together: what is written is what is read.
-use Rattle.std.proofs.Common.{◌≡◌, ℕ, ◌+◌, true, ◌&&◌, eqb, List, [], ◌∷◌, ◌++◌, length, get_or, take, drop, Some, None, sym, refl, ap, ◌∙◌, arith}
+use Rattle.std.proofs.Common.{◌≡◌, ℕ, true, ◌&&◌, eqb, List, [], ◌∷◌, ◌++◌, length, get_or, take, drop, Some, None, sym, refl, ap, ◌∙◌, arith}
 use Rattle.std.proofs.lemmas.List.{append-nil, drop-append-le, take-append-le, drop-take, length-take, length-take-le, drop_all, take_all, length-drop, drop_at, take_at, length-append, take-append-drop, append_assoc, drop-drop}
 use borrow.Rule.Slice.PartMut.{put_mid}
 use Rattle.std.proofs.lemmas.Bool.Decides.{nat_tests}
@@ -8,16 +8,10 @@ use Rattle.timeline.specs.Ring.{ring_long}
 use Rattle.rows.specs.Finding.{six}
 use Rattle.listener.specs.declared.head.Phase.{Phase}
 use Rattle.listener.specs.declared.head.Head.{Head}
-use Rattle.listener.specs.Machine.{memory_long, phase_number, head_words, memory_of, head_of, cells_of, ring_of, a_head, head_at, with_places}
+use Rattle.listener.specs.Machine.{memory_long, no_places, phase_number, head_words, memory_of, head_of, cells_of, ring_of, a_head, head_at, with_places}
 
 pub six_length : (xs : List ℕ) → length (six xs) ≡ 6
-six_length [] = refl
-six_length (a ∷ []) = refl
-six_length (a ∷ b ∷ []) = refl
-six_length (a ∷ b ∷ c ∷ []) = refl
-six_length (a ∷ b ∷ c ∷ d ∷ []) = refl
-six_length (a ∷ b ∷ c ∷ d ∷ e ∷ []) = refl
-six_length (a ∷ b ∷ c ∷ d ∷ e ∷ f ∷ xs) = refl
+six_length xs = length-take-le 6 (xs ++ no_places) (omega (arith, length-append xs no_places))
 
 abbrev pub places : List ℕ → List ℕ
 places xs = get_or xs 0 0 ∷ get_or xs 1 0 ∷ get_or xs 2 0 ∷ get_or xs 3 0 ∷ get_or xs 4 0 ∷ get_or xs 5 0 ∷ []
@@ -32,14 +26,7 @@ six_places (a ∷ b ∷ c ∷ d ∷ e ∷ []) ys = refl
 six_places (a ∷ b ∷ c ∷ d ∷ e ∷ f ∷ xs) ys = refl
 
 pub six_whole : (xs : List ℕ) → length xs ≡ 6 → six xs ≡ xs
-six_whole [] e = absurd (omega arith)
-six_whole (a ∷ []) e = absurd (omega arith)
-six_whole (a ∷ b ∷ []) e = absurd (omega arith)
-six_whole (a ∷ b ∷ c ∷ []) e = absurd (omega arith)
-six_whole (a ∷ b ∷ c ∷ d ∷ []) e = absurd (omega arith)
-six_whole (a ∷ b ∷ c ∷ d ∷ e₁ ∷ []) e = absurd (omega arith)
-six_whole (a ∷ b ∷ c ∷ d ∷ e₁ ∷ f ∷ []) e = refl
-six_whole (a ∷ b ∷ c ∷ d ∷ e₁ ∷ f ∷ x ∷ xs) e = absurd (omega arith)
+six_whole xs e = take_at xs no_places 6 e
 
 module _ (ph : Phase) (h : Head) (cells ring : List ℕ) where
   words_length : length (phase_number ph ∷ head_words h) ≡ 14
@@ -73,11 +60,9 @@ behind_head m = sym (ap (λ (r : List ℕ). take 405 (drop 14 m) ++ r) (sym (dro
 pub ring_lent : (m : List ℕ) → length m ≡ memory_long → take ring_long (drop 419 m) ≡ ring_of m
 ring_lent m l = take_all ring_long (drop 419 m) (omega (arith, length-drop 419 m))
 
-given_back : (a k : ℕ) (m r : List ℕ) → length m ≡ a + k → put_mid a k m r ≡ take a m ++ r
-given_back a k m r l = ap (λ (x : List ℕ). take a m ++ (r ++ x)) (drop_all k (drop a m) (omega (arith, length-drop a m))) ∙ ap (λ (x : List ℕ). take a m ++ x) (append-nil r)
-
 pub ring_given : (m r : List ℕ) → length m ≡ memory_long → put_mid 419 ring_long m r ≡ take 419 m ++ r
-ring_given m r l = given_back 419 ring_long m r l
+ring_given m r l =
+    ap (λ (x : List ℕ). take 419 m ++ (r ++ x)) (drop_all ring_long (drop 419 m) (omega (arith, length-drop 419 m))) ∙ ap (λ (x : List ℕ). take 419 m ++ x) (append-nil r)
 
 pub lent_length : (m : List ℕ) → length m ≡ memory_long → length (take ring_long (drop 419 m)) ≡ ring_long
 lent_length m l = ap length (ring_lent m l) ∙ length-drop 419 m ∙ omega arith
