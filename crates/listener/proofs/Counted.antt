@@ -36,8 +36,7 @@ same_number : (x y : Event) → same x y ≡ true → x.heard ≡ y.heard
 same_number x y h = grind (arith, nat_tests)
 
 asked_alike : (a b : ℕ) (c x y : Event) → same x y ≡ true → (leb x.time b && not (was_settled a c x)) ≡ (leb y.time b && not (was_settled a c y))
-asked_alike a b c x y h =
-    ap₂ (λ (t n : ℕ). leb t b && not (leb t a && pick (ltb t c.time) true (eqb t c.time && ltb n c.heard))) (same_time x y h) (same_number x y h)
+asked_alike a b c x y h = grind (arith, nat_tests)
 
 -- a search may begin at any of the last events
 pub placed_first : (l u k a : ℕ) → 1 ≤ k → k ≤ 6 → u ≤ l → a ≤ u → placed l u k (begin_at a) ≡ true

@@ -81,9 +81,7 @@ pub settles :
     ≡ memory_of ph (settled_head h) (cells_of m) (with_forgotten (ring_of m) h.start h.stale)
 settles m m₁ h ph start len known long e (a, b) k =
     let r : List ℕ = with_forgotten (ring_of m) h.start h.stale in
-    ap₂ (λ (x y : List ℕ). memory_of ph (settled_to h start len known) x y) (ap cells_of e ∙ cells_stay m r long) (ap ring_of e ∙ ring_there m r long)
-    ∙ ap₂ (λ (x y : ℕ). memory_of ph (settled_to h x y known) (cells_of m) r) a b
-    ∙ ap (λ (x : ℕ). memory_of ph (settled_to h ((h.start + h.stale) % capacity) (h.len - h.stale) x) (cells_of m) r) k
+    rw (e, a, b, k, cells_stay m r long, ring_there m r long) refl
 
 pub settled_does :
     (m m₁ m₂ out : List ℕ) (h : Head) (ph : Phase) (next : Phase × Told) (start len known : ℕ) → After ph next → length m ≡ memory_long
@@ -138,11 +136,7 @@ pub newly_is :
     (h : Head) (cells ring : List ℕ) (late mark upto : ℕ) (cur : Cursor) → late ≡ (kept_pattern cells).late → mark ≡ h.latest - late
     → upto ≡ h.known + below_run (mark + 1) (drop h.known (events ring h.start h.len)) → cur ≡ begin_at h.known
     → tell_from Telling (with_upto h upto) cells ring cur ≡ newly_told h cells ring
-newly_is h cells ring late mark upto cur is-late is-mark is-upto is-cur =
-    let marked = is-mark ∙ ap (λ (x : ℕ). h.latest - x) is-late in
-    ap₂ (λ (u : ℕ) (c : Cursor). tell_from Telling (with_upto h u) cells ring c)
-    (is-upto ∙ ap (λ (x : ℕ). h.known + below_run (x + 1) (drop h.known (events ring h.start h.len))) marked)
-    is-cur
+newly_is h cells ring late mark upto cur is-late is-mark is-upto is-cur = rw (is-upto, is-cur, is-mark, is-late) refl
 
 -- so they are with the event that was put into the ring
 pub holding_is :
@@ -150,4 +144,4 @@ pub holding_is :
     → newly_told (with_len h (h.len + 1)) (cells_of m₁) (ring_of m₁) ≡ turned h (cells_of m) (ring_of m) e (Counts h true)
 holding_is m m₁ h e long wrote =
     let ring : List ℕ = with_put (ring_of m) h.start h.len e in
-    ap₂ (newly_told (with_len h (h.len + 1))) (ap cells_of wrote ∙ cells_stay m ring long) (ap ring_of wrote ∙ ring_there m ring long)
+    rw (wrote, cells_stay m ring long, ring_there m ring long) refl

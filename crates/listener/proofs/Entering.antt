@@ -13,26 +13,6 @@ use Rattle.listener.specs.Machine.{memory_long, begun, came, ended, gone_on, mac
 use Rattle.listener.specs.Entry.{call_number, told_of, ActTold, Did, StepSays, step_fits}
 use Rattle.listener.proofs.Steps.{own_is}
 
-module _ (m row : List ℕ) (call : Call) (t : Result Told Refusal) (m₁ out out₁ : List ℕ) where
-  abbrev Done : Call → Type 0
-  Done call = Did (machine m (told_of (call_number call) row)) t m₁ out out₁
-
-  pub told_pattern : call ≡ Pattern → Did (begun m (pattern_in row)) t m₁ out out₁ → Done call
-  unfolding machine told_of
-  told_pattern e d = subst Done (sym e) d
-
-  pub told_event : call ≡ Event → Did (came m (get_or row 0 0) (get_or row 1 0) (get_or row 2 0) (get_or row 3 0)) t m₁ out out₁ → Done call
-  unfolding machine told_of
-  told_event e d = subst Done (sym e) d
-
-  pub told_end : call ≡ End → Did (ended m) t m₁ out out₁ → Done call
-  unfolding machine told_of
-  told_end e d = subst Done (sym e) d
-
-  pub told_next : call ≡ Next → Did (gone_on m) t m₁ out out₁ → Done call
-  unfolding machine told_of
-  told_next e d = subst Done (sym e) d
-
 call_most : (call : Call) → call_number call ≤ 3
 call_most Pattern = omega arith
 call_most Event = omega arith
