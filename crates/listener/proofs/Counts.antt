@@ -105,22 +105,6 @@ module _ (p : Pattern) (n : ℕ) (es : List Event) (f : Event) (num : Numbered n
   upto_same : known + below_run (mark₁ + 1) (drop known (events (laid zero_ring s listed) s (length listed))) ≡ upto
   upto_same = ap (λ (xs : List Event). known + below_run (mark₁ + 1) (drop known xs)) listed_back ∙ upto_is p n es f num in_time
 
-  abbrev state : ℕ → ℕ → ℕ → ℕ → ℕ → Head
-  state c t l u k = record { count = c; latest = t; start = s; len = l; known = known; upto = u; stale = k; at = no_places }
-
-  abbrev upto_of : ℕ → ℕ → List ℕ → ℕ
-  upto_of t l r = known + below_run (t - p.late + 1) (drop known (events r s l))
-
   pub telling_is :
       telling_head p (counting p (waiting_head p n es s) (events ring s (length held_now)) e) (named p e) (ring_with (waiting_head p n es s) e (named p e) ring) ≡ telling
-  telling_is =
-      let t : ℕ = latest_with (waiting_head p n es s) e in
-      let t₁ : ℕ = latest (new p n es f num in_time) in
-      let l : ℕ = len_with (waiting_head p n es s) (named p e) in
-      let k : ℕ = stale_with p (waiting_head p n es s) (events ring s (length held_now)) e in
-      let r : List ℕ = laid zero_ring s listed in
-      ap (λ (x : List ℕ). state (n + 1) t l (upto_of t l x) k) ring_is
-      ∙ ap (λ (x : ℕ). state (n + 1) t x (upto_of t x r) k) len_is
-      ∙ ap (λ (x : ℕ). state (n + 1) x (length listed) (upto_of x (length listed) r) k) latest_is
-      ∙ ap₂ (λ (x y : ℕ). state x t₁ (length listed) (upto_of t₁ (length listed) r) y) (add-one n) stale_same
-      ∙ ap (λ (x : ℕ). state (suc n) t₁ (length listed) x stale) upto_same
+  telling_is = rw (ring_is, len_is, stale_same, latest_is, upto_same, add-one n) refl

@@ -51,7 +51,7 @@ impl From<Phase> for u64 {
 }
 
 // The listener's state, but for its phase, its pattern and the events that it holds.
-// That it lies in the ring is a clause, `InRing`, no invariant or ghost field: the definitions make states of any words, not all in the ring.
+// That it lies in the ring is a clause, `InRing`, no invariant or ghost field: the definitions make states of any words, in it or not.
 #[derive(Clone, Copy, PartialEq, Eq, Debug)]
 pub struct Head {
     // How many events came.

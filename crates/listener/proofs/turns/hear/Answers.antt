@@ -1,4 +1,4 @@
-use Rattle.std.proofs.Common.{◌≡◌, ℕ, ◌+◌, ◌-◌, Bool, max, List, ap, ◌∙◌, ap₂, zero-add, arith}
+use Rattle.std.proofs.Common.{◌≡◌, ℕ, ◌+◌, ◌-◌, Bool, max, List, refl, ap, ◌∙◌, ap₂, zero-add, arith}
 use mir.Val.{bool_byte}
 use Rattle.timeline.specs.declared.events.Event.{Event}
 use Rattle.timeline.specs.Lists.{pick}
@@ -19,19 +19,8 @@ calls_are :
     → (latest ≡ latest_with h e) × (run ≡ stale_with (kept_pattern (cells_of m)) h (events (ring_of m) h.start h.len) e) × (b ≡ named (kept_pattern (cells_of m)) e)
     × (h.len - run + one ≡ h.len - stale_with (kept_pattern (cells_of m)) h (events (ring_of m) h.start h.len) e + pick (named (kept_pattern (cells_of m)) e) 1 0)
 calls_are m h e {words} {late} {latest} {mark} {within} {oldest} {run} {one} {b} is is-late is-latest is-mark is-within is-oldest is-run is-named is-one =
-    let p : Pattern = kept_pattern (cells_of m) in
-    let es : List Event = events (ring_of m) h.start h.len in
-    let late₁ : late ≡ p.late = is-late ∙ ap (λ (x : List ℕ). (kept_pattern x).late) is in
-    let within₁ : within ≡ p.within = is-within ∙ ap (λ (x : List ℕ). (kept_pattern x).within) is in
-    let latest₁ : latest ≡ latest_with h e = is-latest ∙ greater h.latest e.time in
-    let named₁ : b ≡ named p e = is-named ∙ ap (λ (x : List ℕ). named (kept_pattern x) e) is in
-    let oldest₁ = is-oldest ∙ ap₂ (λ (x y : ℕ). x - y) (is-mark ∙ ap₂ (λ (x y : ℕ). x - y) latest₁ late₁) within₁ in
-    let stale : run ≡ stale_with p h es e = is-run ∙ zero-add (below_run oldest es) ∙ ap (λ (x : ℕ). below_run x es) oldest₁ in (
-      latest₁,
-      stale,
-      named₁,
-      ap (λ (x : ℕ). h.len - run + x) (is-one ∙ one_if b) ∙ ap₂ (λ (x : ℕ) (y : Bool). h.len - x + pick y 1 0) stale named₁,
-    )
+    rw (is-one, is-run, is-oldest, is-mark, is-latest, is-late, is-within, is-named, is, greater h.latest e.time, one_if (named (kept_pattern (cells_of m)) e))
+    (refl, zero-add _, refl, omega arith)
 
 counts_from : (p : Pattern) (h : Head) (es : List Event) (e : Event) (latest run : ℕ) (b : Bool) → latest ≡ latest_with h e → run ≡ stale_with p h es e → b ≡ named p e
     → Counts (record { count = h.count + 1; latest = latest; start = h.start; len = h.len; known = h.known; upto = h.upto; stale = run; at = h.at }) b ≡ Counts (counting p h es e) (named p e)
