@@ -1,10 +1,10 @@
 -- An event that counts, to its end: which rows are told, and that the memory is then that of what came.
-use Rattle.std.proofs.Common.{◌≡◌, ℕ, suc, ◌+◌, ◌-◌, ◌%◌, ◌<◌, ◌≤◌, Bool, true, false, not, ◌&&◌, eqb, ltb, leb, List, length, drop, sym, refl, ap, ◌∙◌, ap₂, arith}
+use Rattle.std.proofs.Common.{◌≡◌, ℕ, suc, ◌+◌, ◌-◌, ◌%◌, ◌<◌, ◌≤◌, Bool, true, false, not, ◌&&◌, ltb, leb, List, length, drop, sym, refl, ap, ◌∙◌, ap₂, arith}
 use Rattle.std.proofs.lemmas.List.{length-drop}
 use Rattle.std.proofs.lemmas.Bool.Decides.{nat_tests}
 use Rattle.timeline.specs.declared.events.Event.{Event}
-use Rattle.timeline.specs.Lists.{pick, those, every, each, run}
-use Rattle.timeline.specs.Order.{before, nth, latest}
+use Rattle.timeline.specs.Lists.{those, every, each, run}
+use Rattle.timeline.specs.Order.{before, latest}
 use Rattle.timeline.specs.Ring.{capacity, laid, with_forgotten}
 use Rattle.timeline.proofs.Sorting.{Ord}
 use Rattle.timeline.proofs.Order.{sorted_ord}
@@ -28,12 +28,6 @@ use Rattle.listener.proofs.Counts.{zero_long, listed_few, mark, mark₁, known, 
 
 settled_lower : (a : ℕ) (c : Event) → Lower (was_settled a c)
 settled_lower a c x y q h = grind (arith, nat_tests)
-
-pub same_time : (x y : Event) → same x y ≡ true → x.time ≡ y.time
-same_time x y h = grind (arith, nat_tests)
-
-same_number : (x y : Event) → same x y ≡ true → x.heard ≡ y.heard
-same_number x y h = grind (arith, nat_tests)
 
 asked_alike : (a b : ℕ) (c x y : Event) → same x y ≡ true → (leb x.time b && not (was_settled a c x)) ≡ (leb y.time b && not (was_settled a c y))
 asked_alike a b c x y h = grind (arith, nat_tests)
@@ -101,16 +95,9 @@ module _ (p : Pattern) (n : ℕ) (es : List Event) (f : Event) (num : Numbered n
             λ i a b.
             let q = back_fails (was_settled m c) (settled_lower m c) listed listed_ord i (omega (arith, known_is p n es f num in_time)) (omega (arith, u_most)) in
             let t = front_passes below (time_lower (m₁ + 1)) listed listed_ord i b in
-            early (nth listed i) m₁ (was_settled m c (nth listed i)) t q;
-        upper =
-            λ i a b. let t = back_fails below (time_lower (m₁ + 1)) listed listed_ord i a b in late_one (nth listed i) m₁ (was_settled m c (nth listed i)) t;
+            grind (arith, nat_tests);
+        upper = λ i a b. let t = back_fails below (time_lower (m₁ + 1)) listed listed_ord i a b in grind (arith, nat_tests);
       }
-    where
-      early : (x : Event) (a : ℕ) (b : Bool) → ltb x.time (a + 1) ≡ true → b ≡ false → (leb x.time a && not b) ≡ true
-      early x a b h q = grind (arith, nat_tests)
-
-      late_one : (x : Event) (a : ℕ) (b : Bool) → ltb x.time (a + 1) ≡ false → (leb x.time a && not b) ≡ false
-      late_one x a b h = grind (arith, nat_tests)
 
   pub told_is :
       1 ≤ length p.steps

@@ -1,5 +1,5 @@
 -- What the code does is what the machine does, case by case, over plain variables.
-use Rattle.std.proofs.Common.{◌≡◌, ℕ, ◌+◌, ◌-◌, ◌%◌, ◌<◌, ◌≤◌, Bool, true, false, ltb, max, List, ◌++◌, length, take, drop, Some, None, Option, Ok, Result, sym, refl, ap, ◌∙◌, subst, ap₂, arith, le-ltb, lt-ltb}
+use Rattle.std.proofs.Common.{◌≡◌, ℕ, ◌+◌, ◌-◌, ◌%◌, ◌<◌, ◌≤◌, Bool, true, false, ltb, max, List, ◌++◌, length, take, drop, Some, None, Option, Ok, Result, sym, refl, ap, ◌∙◌, subst, arith, le-ltb, lt-ltb}
 use Rattle.std.proofs.lemmas.List.{length-take-le}
 use Rattle.std.proofs.lemmas.Bool.Decides.{nat_tests as by_tests}
 use mir.Val.{bool_byte}
@@ -12,7 +12,6 @@ use Rattle.patterns.proofs.Steps.{steps_six}
 use Rattle.rows.specs.declared.search.Cursor.{Cursor}
 use Rattle.rows.specs.declared.search.Found.{Found}
 use Rattle.rows.specs.Finding.{next_found}
-use Rattle.rows.specs.SearchLaws.{begin_at}
 use Rattle.listener.specs.declared.head.Phase.{Phase}
 use Rattle.listener.specs.declared.head.Phase.TheVariants.{New, Waiting, Telling, Ending, Over as Done}
 use Rattle.listener.specs.declared.head.Head.{Head}
@@ -20,8 +19,8 @@ use Rattle.listener.specs.declared.head.Turn.TheVariants.{Late, Full, Counts}
 use Rattle.listener.specs.declared.acts.Told.{Told}
 use Rattle.listener.specs.declared.acts.Refusal.{Refusal}
 use Rattle.listener.specs.declared.acts.Told.TheVariants.{Row, Waits, Over as ToldOver}
-use Rattle.listener.specs.Engine.{Act, tells, waits, Stepped}
-use Rattle.listener.specs.Machine.{memory_long, no_places, memory_of, cells_of, ring_of, room, stale_with, counting, hear, settled_head, settled, phase_after, act_after, with_places, told_or_settled, tell_from, below_run, newly_told, turned}
+use Rattle.listener.specs.Engine.{Act, tells, waits}
+use Rattle.listener.specs.Machine.{memory_long, no_places, memory_of, cells_of, ring_of, room, stale_with, counting, hear, settled_head, settled, phase_after, act_after, with_places, tell_from, newly_told, turned}
 use Rattle.listener.specs.Entry.{ActTold, Did}
 use Rattle.listener.proofs.Words.{cells_stay, ring_there}
 
@@ -100,45 +99,30 @@ module _ (ph : Phase) (h : Head) (cells ring : List ℕ) (c : Cursor) where
   abbrev found : Option Found
   found = next_found (events ring h.start h.len) (kept_pattern cells) h.upto c
 
-  tells_by : (o : Option Found) → o ≡ found → tell_from ph h cells ring c ≡ told_or_settled ph h cells ring o
-  unfolding tell_from
-  tells_by o e = ap (told_or_settled ph h cells ring) (sym e)
-
   pub tells_none :
       (t : Result Told Refusal) (m₁ out out₁ : List ℕ) → None ≡ found → Did (settled ph h cells ring) t m₁ out out₁ → Did (tell_from ph h cells ring c) t m₁ out out₁
-  tells_none t m₁ out out₁ e d = subst (λ (st : Stepped). Did st t m₁ out out₁) (sym (tells_by None e)) d
+  unfolding tell_from
+  tells_none t m₁ out out₁ e d = rw (sym e) d
 
   row_told :
       (xs out out₁ : List ℕ) (k n : ℕ) → n ≡ k → k ≤ 6 → length xs ≡ 6 → out₁ ≡ take n xs ++ drop n out → ActTold (tells (take k xs)) (Ok (Row n)) out out₁
   unfolding ActTold
   row_told xs out out₁ k n e l s w =
       let long : length (take k xs) ≡ k = length-take-le k xs (omega arith) in
-      (ap (λ (x : ℕ). Ok (Row x)) (e ∙ sym long), omega (arith, long), w ∙ ap (λ (x : ℕ). take x xs ++ drop x out) e ∙ ap (λ (x : ℕ). take k xs ++ drop x out) (sym long))
+      rw (w, e, long) (refl, l, refl)
 
   pub tells_row :
       (f : Found) (n : ℕ) (m₁ out out₁ : List ℕ) → Some f ≡ found → n ≡ kept_count cells → length f.numbers ≡ 6
       → m₁ ≡ memory_of ph (with_places h f.next.at) cells ring → out₁ ≡ take n f.numbers ++ drop n out → Did (tell_from ph h cells ring c) (Ok (Row n)) m₁ out out₁
-  tells_row f n m₁ out out₁ e k s m w =
-      subst (λ (st : Stepped). Did st (Ok (Row n)) m₁ out out₁) (sym (tells_by (Some f) e))
-      (record { memory = m; told = row_told f.numbers out out₁ (kept_count cells) n k (steps_six cells) s w })
+  unfolding tell_from
+  tells_row f n m₁ out out₁ e k s m w = rw (sym e) (record { memory = m; told = row_told f.numbers out out₁ (kept_count cells) n k (steps_six cells) s w })
 
 -- AN EVENT THAT COUNTS
 abbrev with_len : Head → ℕ → Head
 with_len h len =
     record { count = h.count; latest = h.latest; start = h.start; len = len; known = h.known; upto = h.upto; stale = h.stale; at = h.at }
 
-abbrev with_upto : Head → ℕ → Head
-with_upto h upto =
-    record { count = h.count; latest = h.latest; start = h.start; len = h.len; known = h.known; upto = upto; stale = h.stale; at = h.at }
-
--- rows are told from the known events to the mark
-pub newly_is :
-    (h : Head) (cells ring : List ℕ) (late mark upto : ℕ) (cur : Cursor) → late ≡ (kept_pattern cells).late → mark ≡ h.latest - late
-    → upto ≡ h.known + below_run (mark + 1) (drop h.known (events ring h.start h.len)) → cur ≡ begin_at h.known
-    → tell_from Telling (with_upto h upto) cells ring cur ≡ newly_told h cells ring
-newly_is h cells ring late mark upto cur is-late is-mark is-upto is-cur = rw (is-upto, is-cur, is-mark, is-late) refl
-
--- so they are with the event that was put into the ring
+-- an event that was put into the ring
 pub holding_is :
     (m m₁ : List ℕ) (h : Head) (e : Event) → length m ≡ memory_long → m₁ ≡ take 419 m ++ with_put (ring_of m) h.start h.len e
     → newly_told (with_len h (h.len + 1)) (cells_of m₁) (ring_of m₁) ≡ turned h (cells_of m) (ring_of m) e (Counts h true)

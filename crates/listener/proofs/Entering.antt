@@ -1,15 +1,14 @@
 -- One step as the world outside sees it: what is told by a number, and which calls fit.
-use Rattle.std.proofs.Common.{◌≡◌, ℕ, ◌<◌, ◌≤◌, Bool, true, false, ◌&&◌, eqb, leb, List, Result, Err, ◌++◌, length, get_or, take, drop, sym, refl, ap, ◌∙◌, subst, arith}
+use Rattle.std.proofs.Common.{◌≡◌, ℕ, ◌<◌, ◌≤◌, Bool, true, false, ◌&&◌, eqb, leb, List, Result, Err, ◌++◌, length, take, drop, sym, refl, ap, ◌∙◌, subst, arith}
 use Rattle.std.proofs.lemmas.List.{length-replicate, drop-append-le, length-take-le, append_assoc, take-append-drop}
 use Rattle.std.proofs.lemmas.Bool.Decides.{nat_tests as by_tests}
-use Rattle.patterns.specs.Numbers.{pattern_in}
 use Rattle.listener.specs.declared.acts.Told.{Told}
 use Rattle.listener.specs.declared.acts.Refusal.{Refusal}
 use Rattle.listener.specs.declared.acts.Refusal.TheVariants.{Misfit}
 use Rattle.listener.specs.declared.acts.Call.{Call}
 use Rattle.listener.specs.declared.acts.Call.TheVariants.{Pattern, Event, End, Next}
 use Rattle.listener.specs.Engine.{Act, tells, waits, late, over, refused, Stepped}
-use Rattle.listener.specs.Machine.{memory_long, begun, came, ended, gone_on, machine, own}
+use Rattle.listener.specs.Machine.{memory_long, machine, own}
 use Rattle.listener.specs.Entry.{call_number, told_of, ActTold, Did, StepSays, step_fits}
 use Rattle.listener.proofs.Steps.{own_is}
 

@@ -1,5 +1,5 @@
 -- What a step of the listener is from a memory that it wrote itself.
-use Rattle.std.proofs.Common.{◌≡◌, ℕ, suc, ◌<◌, ◌≤◌, true, List, length, None, refl, ◌∙◌, ap₂, arith}
+use Rattle.std.proofs.Common.{◌≡◌, ℕ, suc, ◌<◌, ◌≤◌, true, List, length, None, refl, ◌∙◌, arith}
 use Rattle.std.proofs.lemmas.Bool.{eq-eqb}
 use Rattle.std.proofs.lemmas.Bool.Decides.{nat_tests}
 use Rattle.timeline.specs.Ring.{capacity, ring_long}
@@ -9,7 +9,7 @@ use Rattle.listener.specs.declared.head.Phase.{Phase}
 use Rattle.listener.specs.declared.head.Phase.TheVariants.{Waiting, Telling, Ending}
 use Rattle.listener.specs.declared.head.Head.{Head}
 use Rattle.listener.specs.Engine.{ToldIt, comes, ends, next}
-use Rattle.listener.specs.Machine.{memory_long, room, no_places, memory_of, a_head, head_at, tell_from, cursor_of, ending_head, event_of, heard, came, ended, resumed, gone_on, machine, own}
+use Rattle.listener.specs.Machine.{memory_long, room, no_places, memory_of, a_head, head_at, tell_from, cursor_of, ending_head, event_of, heard, came, ended, gone_on, machine, own}
 use Rattle.listener.proofs.Words.{ring_back, cells_back, memory_length, head_found}
 
 -- a state and the other parts of a memory that the listener can have written
@@ -32,15 +32,11 @@ module _ (h : Head) (cells ring : List ℕ) (s : Sound h cells ring) where
   long_enough : (ph : Phase) → length (memory_of ph h cells ring) ≡ memory_long
   long_enough ph = memory_length ph h cells ring s.wide s.long
 
-  resumed_is : (ph : Phase) → resumed ph (memory_of ph h cells ring) h ≡ tell_from ph h cells ring (cursor_of cells h)
-  resumed_is ph =
-      ap₂ (λ (c r : List ℕ). tell_from ph h c r (cursor_of c h)) (cells_back ph h cells ring s.wide) (ring_back ph h cells ring s.wide)
-
   pub next_telling : own.step (memory_of Telling h cells ring) next ≡ tell_from Telling h cells ring (cursor_of cells h)
   unfolding machine gone_on
   next_telling =
       own_is (memory_of Telling h cells ring) next (long_enough Telling)
-      ∙ rw (head_found Telling h cells ring s.places s.ok) (resumed_is Telling)
+      ∙ rw (head_found Telling h cells ring s.places s.ok, cells_back Telling h cells ring s.wide, ring_back Telling h cells ring s.wide) refl
 
   not_telling : head_at Telling (memory_of Ending h cells ring) ≡ None
   unfolding head_at
@@ -50,14 +46,13 @@ module _ (h : Head) (cells ring : List ℕ) (s : Sound h cells ring) where
   unfolding machine gone_on
   next_ending =
       own_is (memory_of Ending h cells ring) next (long_enough Ending)
-      ∙ rw (not_telling, head_found Ending h cells ring s.places s.ok) (resumed_is Ending)
+      ∙ rw (not_telling, head_found Ending h cells ring s.places s.ok, cells_back Ending h cells ring s.wide, ring_back Ending h cells ring s.wide) refl
 
   pub ends_waiting : own.step (memory_of Waiting h cells ring) ends ≡ tell_from Ending (ending_head h) cells ring (begin_at h.known)
   unfolding machine ended
   ends_waiting =
       own_is (memory_of Waiting h cells ring) ends (long_enough Waiting)
-      ∙ rw (head_found Waiting h cells ring s.places s.ok)
-      (ap₂ (λ (c r : List ℕ). tell_from Ending (ending_head h) c r (begin_at h.known)) (cells_back Waiting h cells ring s.wide) (ring_back Waiting h cells ring s.wide))
+      ∙ rw (head_found Waiting h cells ring s.places s.ok, cells_back Waiting h cells ring s.wide, ring_back Waiting h cells ring s.wide) refl
 
   pub comes_waiting :
       (t k w v : ℕ) → an_event (event_of h.count t k w v) ≡ true
@@ -65,6 +60,4 @@ module _ (h : Head) (cells ring : List ℕ) (s : Sound h cells ring) where
   unfolding machine came
   comes_waiting t k w v e =
       own_is (memory_of Waiting h cells ring) (comes t k w v) (long_enough Waiting)
-      ∙ rw (head_found Waiting h cells ring s.places s.ok)
-      (rw e
-      (ap₂ (λ (c r : List ℕ). heard h c r (event_of h.count t k w v)) (cells_back Waiting h cells ring s.wide) (ring_back Waiting h cells ring s.wide)))
+      ∙ rw (head_found Waiting h cells ring s.places s.ok, e, cells_back Waiting h cells ring s.wide, ring_back Waiting h cells ring s.wide) refl

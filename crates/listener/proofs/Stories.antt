@@ -61,21 +61,18 @@ ran_as e D a rs m ev k z t h =
     let same : runs (suc (length rs)) e m ev [] ≡ runs k e m ev [] = runs_one e (suc (length rs)) k m ev (λ q. end_ends a z (sym all.0 ∙ q)) h in
     (sym (ap (λ (r : Ran). r.end) same) ∙ all.0, sym (ap (λ (r : Ran). r.rows_told) same) ∙ all.1, subst (λ (r : Ran). D r.memory) same all.2)
 
+-- what was told, and the rest
+told_then : (xs ys all : List (List Event)) → all ≡ xs ++ ys → each numbers xs ++ each numbers (drop (length xs) all) ≡ each numbers all
+told_then xs ys all e = rw (e, drop_front xs ys) (sym (each_append numbers xs ys))
+
 -- what was known, and what becomes known
 pub known_more : (p : Pattern) (n : ℕ) (es : List Event) (f : Event) → Numbered n es → too_late p es f ≡ false
     → each numbers (known_rows p es) ++ newly p es (es ++ with_number n f ∷ []) ≡ each numbers (known_rows p (es ++ with_number n f ∷ []))
 unfolding KnownStays
 known_more p n es f num in_time =
-    let all = es ++ with_number n f ∷ [] in
     let stays = known_stays_proof p es (with_number n f) (numbered_more n es f num).0 in_time in
-    let rest : drop (length (known_rows p es)) (known_rows p all) ≡ stays.0 = ap (drop (length (known_rows p es))) stays.1 ∙ drop_front (known_rows p es) stays.0 in
-    ap (λ (x : List (List Event)). each numbers (known_rows p es) ++ each numbers x) rest
-    ∙ sym (each_append numbers (known_rows p es) stays.0) ∙ ap (each numbers) (sym stays.1)
+    told_then (known_rows p es) stays.0 (known_rows p (es ++ with_number n f ∷ [])) stays.1
 
 -- and what is left at the end
 pub known_then_left : (p : Pattern) (es : List Event) → each numbers (known_rows p es) ++ left_over p es ≡ each numbers (all_rows p es)
-known_then_left p es =
-    let others : List (List Event) = those (λ r. ltb (heard_to p es) (last_of r).time) (all_rows p es) in
-    let rest : drop (length (known_rows p es)) (all_rows p es) ≡ others = ap (drop (length (known_rows p es))) (all_split p es) ∙ drop_front (known_rows p es) others in
-    ap (λ (x : List (List Event)). each numbers (known_rows p es) ++ each numbers x) rest
-    ∙ sym (each_append numbers (known_rows p es) others) ∙ ap (each numbers) (sym (all_split p es))
+known_then_left p es = told_then (known_rows p es) (those (λ r. ltb (heard_to p es) (last_of r).time) (all_rows p es)) (all_rows p es) (all_split p es)

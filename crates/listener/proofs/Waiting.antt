@@ -4,7 +4,7 @@ use Rattle.std.proofs.lemmas.Bool.{ltb-true, ltb-false, and_parts}
 use Rattle.std.proofs.lemmas.Bool.Decides.{nat_tests as by_tests}
 use Rattle.timeline.specs.declared.events.Event.{Event}
 use Rattle.timeline.specs.Lists.{pick, those, each}
-use Rattle.timeline.specs.Order.{before, nth, latest}
+use Rattle.timeline.specs.Order.{before, latest}
 use Rattle.timeline.specs.Ring.{capacity, events, laid}
 use Rattle.timeline.proofs.Sorting.{Ord}
 use Rattle.timeline.proofs.Order.{sorted_ord, length_sorted, latest_snoc}
@@ -31,7 +31,7 @@ use Rattle.listener.proofs.Fronts.{front_passes, back_fails, time_lower, below_r
 use Rattle.listener.proofs.Holding.{Numbered, numbered_later, numbered_more, heard_those, with_came, held_is}
 use Rattle.listener.proofs.Hearing.{heard_late, heard_full, heard_counts}
 use Rattle.listener.proofs.Counts.{zero_long, listed_back, stale, stale_same, telling, telling_is, ring_is}
-use Rattle.listener.proofs.Counted.{same_time, placed_first, told_is, settled_is, placed_is, sound_telling}
+use Rattle.listener.proofs.Counted.{placed_first, told_is, settled_is, placed_is, sound_telling}
 
 -- times are below 2^62
 abbrev time_limit : ℕ
@@ -136,10 +136,9 @@ module _ (p : Pattern) (kept : KeptAs (pattern_cells p) p) where
     early_more : latest more < time_limit
     early_more =
         let t = ltb-true f.time time_limit (and_parts (ltb f.time time_limit) (ltb f.kind 65536) (and_parts _ _ e).0).0 in
-        subst (λ (x : ℕ). x < time_limit) (sym (latest_snoc es (with_number n f))) (both (latest es) f.time w.early t)
-      where
-        both : (a b : ℕ) → a < time_limit → b < time_limit → pick (ltb a b) b a < time_limit
-        both a b x y = grind (arith, by_tests)
+        let l = latest_snoc es (with_number n f) in
+        let w₁ = w.early in
+        grind (arith, by_tests)
 
     next_waits : room_test ≡ false → Waits p (settled Telling told_in cells with_it).memory (suc n) more
     unfolding held_list
@@ -213,17 +212,11 @@ module _ (p : Pattern) (kept : KeptAs (pattern_cells p) p) where
     just_left =
         let run_is = below_run_is (mark + 1) all_held held_ord in
         record {
-          alike = λ x y h. ap (ltb mark) (same_time x y h);
-          lower = λ i a. let t = front_passes (λ x. ltb x.time (mark + 1)) (time_lower (mark + 1)) all_held held_ord i (omega (arith, run_is)) in known_one (nth all_held i) mark t;
-          mid = λ i a b. let t = back_fails (λ x. ltb x.time (mark + 1)) (time_lower (mark + 1)) all_held held_ord i (omega (arith, run_is)) b in left_one (nth all_held i) mark t;
+          alike = λ x y h. grind (arith, by_tests);
+          lower = λ i a. let t = front_passes (λ x. ltb x.time (mark + 1)) (time_lower (mark + 1)) all_held held_ord i (omega (arith, run_is)) in grind (arith, by_tests);
+          mid = λ i a b. let t = back_fails (λ x. ltb x.time (mark + 1)) (time_lower (mark + 1)) all_held held_ord i (omega (arith, run_is)) b in grind (arith, by_tests);
           upper = λ i a b. absurd (omega arith);
         }
-      where
-        known_one : (x : Event) (a : ℕ) → ltb x.time (a + 1) ≡ true → ltb a x.time ≡ false
-        known_one x a h = grind (arith, by_tests)
-
-        left_one : (x : Event) (a : ℕ) → ltb x.time (a + 1) ≡ false → ltb a x.time ≡ true
-        left_one x a h = grind (arith, by_tests)
 
     left_told : told all_held (to_come all_held p (length all_held) (begin_at known_ones)) ≡ left_over p es
     unfolding held_list EndsHeld
