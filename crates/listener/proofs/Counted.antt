@@ -1,5 +1,5 @@
 -- An event that counts, to its end: which rows are told, and that the memory is then that of what came.
-use Rattle.std.proofs.Common.{◌≡◌, ℕ, suc, ◌+◌, ◌-◌, ◌%◌, ◌<◌, ◌≤◌, Bool, true, false, not, ◌&&◌, ltb, leb, List, length, drop, sym, refl, ap, ◌∙◌, ap₂, arith}
+use Rattle.std.proofs.Common.{◌≡◌, ℕ, suc, ◌+◌, ◌-◌, ◌%◌, ◌<◌, ◌≤◌, Bool, true, false, not, ◌&&◌, ltb, leb, List, length, drop, sym, refl, ap, ◌∙◌, arith}
 use Rattle.std.proofs.lemmas.List.{length-drop}
 use Rattle.std.proofs.lemmas.Bool.Decides.{nat_tests}
 use Rattle.timeline.specs.declared.events.Event.{Event}
@@ -17,10 +17,9 @@ use Rattle.rows.specs.Finding.{row_of, placed, to_come}
 use Rattle.rows.specs.SearchLaws.{begin_at, same, Just}
 use Rattle.rows.proofs.Newly.{newly_held}
 use Rattle.rows.proofs.AllFound.{rest_told}
-use Rattle.listener.specs.declared.head.Phase.TheVariants.{Waiting, Telling}
-use Rattle.listener.specs.declared.head.Head.{Head}
-use Rattle.listener.specs.Machine.{room, no_places, below_run, memory_of, settled}
-use Rattle.listener.specs.Holding.{held_list, waiting_head, zero_ring, waiting_memory}
+use Rattle.listener.specs.declared.head.Phase.TheVariants.{Telling}
+use Rattle.listener.specs.Machine.{room, below_run, settled}
+use Rattle.listener.specs.Holding.{held_list, zero_ring, waiting_memory}
 use Rattle.listener.proofs.Fronts.{Lower, front_passes, back_fails, time_lower, below_run_is, below_run_drop, below_run_most, below_run_grows}
 use Rattle.listener.proofs.Steps.{Sound, head_ok}
 use Rattle.listener.proofs.Holding.{Numbered, numbered_more, came, new, with_came, stale_is, forgotten, known_is, upto_is, heard_those}
@@ -126,25 +125,10 @@ module _ (p : Pattern) (n : ℕ) (es : List Event) (f : Event) (num : Numbered n
       laid_forget s gone listed (omega (arith, gone_first, u_most)) (omega (arith, listed_few p n es f num in_time s few))
       ∙ ap (laid zero_ring ((s + gone) % capacity)) left_is
 
-  abbrev state : ℕ → ℕ → Head
-  state len known_ones =
-      record {
-        count = suc n;
-        latest = latest (new p n es f num in_time);
-        start = (s + gone) % capacity;
-        len = len;
-        known = known_ones;
-        upto = 0;
-        stale = 0;
-        at = no_places;
-      }
-
   pub settled_is :
       (settled Telling (telling p n es f num in_time s few) (pattern_cells p) (laid zero_ring s listed)).memory
       ≡ waiting_memory p (suc n) (new p n es f num in_time) ((s + gone) % capacity)
-  settled_is =
-      ap₂ (λ (x y : ℕ). memory_of Waiting (state x y) (pattern_cells p) (with_forgotten (laid zero_ring s listed) s gone)) len_left known_left
-      ∙ ap (λ (r : List ℕ). memory_of Waiting (waiting_head p (suc n) (new p n es f num in_time) ((s + gone) % capacity)) (pattern_cells p) r) ring_left
+  settled_is = rw (len_left, known_left, ring_left) refl
 
   pub placed_is : 1 ≤ length p.steps → length p.steps ≤ 6 → placed (length listed) u (length p.steps) (begin_at k) ≡ true
   placed_is some six = placed_first (length listed) u (length p.steps) k some six u_most up_to

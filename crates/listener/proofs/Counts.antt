@@ -2,7 +2,7 @@
 use Rattle.std.proofs.Common.{◌≡◌, ℕ, suc, ◌+◌, ◌-◌, ◌≤◌, Bool, true, false, ltb, List, length, drop, sym, refl, ap, ◌∙◌, ap₂, add-one, arith}
 use Rattle.std.proofs.lemmas.List.{length-replicate}
 use Rattle.timeline.specs.declared.events.Event.{Event}
-use Rattle.timeline.specs.Lists.{pick, those}
+use Rattle.timeline.specs.Lists.{those}
 use Rattle.timeline.specs.Order.{put, latest}
 use Rattle.timeline.specs.Ordered.{put_last}
 use Rattle.timeline.specs.Ring.{ring_long, events, laid, with_put}
@@ -48,18 +48,10 @@ module _ (p : Pattern) (n : ℕ) (es : List Event) (f : Event) (num : Numbered n
       go false q = ap (laid zero_ring s) (sym (with_came_is p n es f num in_time ∙ rw q))
 
   len_is : len_with (waiting_head p n es s) (named p e) ≡ length listed
-  len_is = go (named p e) refl
-    where
-      go : (b : Bool) → named p e ≡ b → len_with (waiting_head p n es s) b ≡ length listed
-      go true q = sym (length_with p n es f num in_time ∙ ap (λ (b : Bool). length held_now + pick b 1 0) q)
-      go false q = sym (length_with p n es f num in_time ∙ ap (λ (b : Bool). length held_now + pick b 1 0) q ∙ omega arith)
+  len_is = let l = length_with p n es f num in_time in grind arith
 
   pub listed_few : length listed ≤ suc room
-  listed_few = go (named p e) (length_with p n es f num in_time)
-    where
-      go : (b : Bool) → length listed ≡ length held_now + pick b 1 0 → length listed ≤ suc room
-      go true q = omega arith
-      go false q = omega arith
+  listed_few = let l = length_with p n es f num in_time in grind arith
 
   pub listed_back : events (laid zero_ring s listed) s (length listed) ≡ listed
   listed_back = events_of_laid zero_ring s listed zero_long (omega (arith, listed_few))

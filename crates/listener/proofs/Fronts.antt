@@ -8,9 +8,9 @@ use Rattle.std.proofs.lemmas.Bool.Decides.{nat_tests}
 use Rattle.timeline.specs.declared.events.Event.{Event}
 use Rattle.timeline.specs.Lists.{those}
 use Rattle.timeline.specs.Order.{before, nth, nothing}
-use Rattle.timeline.proofs.Lists.{All, all_map, those_none, those_all}
-use Rattle.timeline.proofs.Sorting.{Ord}
-use Rattle.timeline.proofs.Order.{nth_is}
+use Rattle.timeline.proofs.Lists.{All, all_any, all_map, those_none, those_all, drop_front as drop_behind}
+use Rattle.timeline.proofs.Sorting.{Ord, those_split}
+use Rattle.timeline.proofs.Order.{before_order, nth_is}
 use Rattle.listener.specs.Machine.{below_run}
 
 -- a test that holds of all that is not behind one of which it holds
@@ -22,10 +22,6 @@ fail_behind z low e es a f = all_map (λ y. before y e ≡ false) (λ y. z y ≡
 
 none_behind : (z : Event → Bool) → Lower z → (e : Event) (es : List Event) → All (λ y. before y e ≡ false) es → z e ≡ false → those z es ≡ []
 none_behind z low e es a f = those_none z es (fail_behind z low e es a f)
-
-all_behind : (z : Event → Bool) → Lower z → (e : Event) (es : List Event) → All (λ y. before y e ≡ false) es → z e ≡ false → those (λ x. not (z x)) es ≡ es
-all_behind z low e es a f =
-    those_all (λ x. not (z x)) es (all_map (λ y. z y ≡ false) (λ y. not (z y) ≡ true) (λ y q. ap not q) es (fail_behind z low e es a f))
 
 -- those that pass are the first ones
 pub front_passes : (z : Event → Bool) → Lower z → (es : List Event) → Ord before es → (i : ℕ) → i < length (those z es) → z (nth es i) ≡ true
@@ -66,14 +62,9 @@ below_run_is b (e ∷ es) o =
 
 -- what is behind the front
 pub drop_front : (z : Event → Bool) → Lower z → (es : List Event) → Ord before es → drop (length (those z es)) es ≡ those (λ e. not (z e)) es
-unfolding those
-drop_front z low [] o = refl
-drop_front z low (e ∷ es) o =
-    let ih = drop_front z low es o.1 in
-    let n = none_behind z low e es o.0 in
-    let m = λ (q : z e ≡ false). ap length (n q) in
-    let k = λ (q : z e ≡ false). all_behind z low e es o.0 q in
-    grind arith
+drop_front z low es o =
+    let split = sym (those_all (λ x. true) es (all_any (λ x. true ≡ true) (λ x. refl) es)) ∙ those_split before before_order (λ x. true) z es o low (λ x h. refl) in
+    ap (drop (length (those z es))) split ∙ drop_behind (those z es) (those (λ x. not (z x)) es)
 
 -- a run goes on behind a part of it
 pub below_run_drop : (b k : ℕ) (es : List Event) → k ≤ below_run b es → below_run b es ≡ k + below_run b (drop k es)

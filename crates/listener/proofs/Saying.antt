@@ -46,10 +46,7 @@ module _ (m out : List ℕ) (p : Pattern) where
 
 -- the pattern's words lent, and given back
 pub cells_given : (a k : ℕ) (m r : List ℕ) → a + k ≤ length m → r ≡ take k (drop a m) → put_mid a k m r ≡ m
-cells_given a k m r l e = ap (put_mid a k m) e ∙ back a k m l
-  where
-    back : (a k : ℕ) (m : List ℕ) → a + k ≤ length m → put_mid a k m (take k (drop a m)) ≡ m
-    back a k m l = same_lists _ _ (search (rules, places)) (λ i d h. grind (arith, places))
+cells_given a k m r l e = rw e (same_lists _ _ (search (rules, places)) (λ i d h. grind (arith, places)))
 
 pub cells_new : (m r : List ℕ) → length m ≡ memory_long → length r ≡ 405 → cells_of (put_mid 14 405 m r) ≡ r
 cells_new m r l k = between-put_mid 14 405 m r 419 (omega arith) k

@@ -170,8 +170,7 @@ module _ (p : Pattern) (kept : KeptAs (pattern_cells p) p) where
         (sound_telling p n es f num q s w.few w.round (omega arith) early_more kept.wide (omega arith)) refl refl
         (subst (λ (xs : List Event). placed (length xs) told_in.upto (length p.steps) (begin_at h.known) ≡ true) (sym back) (placed_is p n es f num q s w.few kept.some kept.few))
         (next_waits r) in
-        subst (λ (xs : List (List ℕ)). TellsThen own D waits (own.step m (said f)) xs) rows_are
-        (subst (λ (st : Stepped). TellsThen own D waits st rows) (sym (told_step r)) t)
+        rw (told_step r, sym rows_are) t
 
   -- nothing more comes
   module _ (m : List ℕ) (n : ℕ) (es : List Event) (l : n ≤ most) (w : Waits p m n es) where
@@ -238,8 +237,7 @@ module _ (p : Pattern) (kept : KeptAs (pattern_cells p) p) where
         let step : own.step m ends ≡ tell_from Ending ending cells (ring_at es at_slot) (begin_at known_ones) =
         ap (λ (x : List ℕ). own.step x ends) w.whole
         ∙ ends_waiting (waiting_head p n es at_slot) cells (ring_at es at_slot) (sound n es at_slot (omega arith) w.round w.early w.few) in
-        subst (λ (xs : List (List ℕ)). TellsThen own (λ m₁. Unit) over (own.step m ends) xs) rows_are
-        (subst (λ (st : Stepped). TellsThen own (λ m₁. Unit) over st rows) (sym step) t)
+        rw (step, sym rows_are) t
 
   pub good : Good own p (Waits p)
   good =

@@ -1,7 +1,5 @@
-use Rattle.std.proofs.Common.{Bool, sym, subst}
+use Rattle.std.proofs.Common.{sym}
 use Rattle.listener.specs.declared.head.Turn.TheVariants.{Late, Full, Counts}
-use Rattle.listener.specs.Machine.{cells_of, ring_of, turned}
-use Rattle.listener.specs.Entry.{Did}
 use Rattle.listener.proofs.Saying.{no_turn, told_misfit, told_heard, late_done, full_done}
 use Rattle.listener.proofs.entry.come.Goals as goal
 
@@ -27,13 +25,11 @@ returns-then-named c =
     let m = c.args.memory.now in
     told_heard c.args.memory.now c.args.out.now _ _ _ _ c.in-Some.head c.event_in-e.result c.event_in-e.ensures c.in-Some.ensures.value
     (Counts c.in-Counts.head c.in-Counts.named) _ _ _ (sym c.if-not-is_event.ensures) c.in-Counts.ensures.value
-    (subst (λ (b : Bool). Did (turned c.in-Some.head (cells_of m) (ring_of m) c.event_in-e.result (Counts c.in-Counts.head b)) c.tell_holding.result c.tell_holding.new.memory c.args.out.now c.tell_holding.new.out)
-    (sym c.if-named.true) c.tell_holding.ensures)
+    (rw c.if-named.true c.tell_holding.ensures)
 
 pub returns-else-named : goal.returns-else-named
 returns-else-named c =
     let m = c.args.memory.now in
     told_heard c.args.memory.now c.args.out.now _ _ _ _ c.in-Some.head c.event_in-e.result c.event_in-e.ensures c.in-Some.ensures.value
     (Counts c.in-Counts.head c.in-Counts.named) _ _ _ (sym c.if-not-is_event.ensures) c.in-Counts.ensures.value
-    (subst (λ (b : Bool). Did (turned c.in-Some.head (cells_of m) (ring_of m) c.event_in-e.result (Counts c.in-Counts.head b)) c.tell_newly.result c.tell_newly.new.memory c.args.out.now c.tell_newly.new.out)
-    (sym c.if-named.false) c.tell_newly.ensures)
+    (rw c.if-named.false c.tell_newly.ensures)
