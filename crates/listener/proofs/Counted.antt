@@ -14,7 +14,7 @@ use Rattle.patterns.specs.Kept.{pattern_cells}
 use Rattle.rows.specs.Known.{heard_to, too_late, is_held, numbers, newly}
 use Rattle.rows.specs.Newly.{settled as was_settled, NewlyHeld}
 use Rattle.rows.specs.Finding.{row_of, placed, to_come}
-use Rattle.rows.specs.SearchLaws.{begin_at, same, Just}
+use Rattle.rows.specs.SearchLaws.{begin_at, Just}
 use Rattle.rows.proofs.Newly.{newly_held}
 use Rattle.rows.proofs.AllFound.{rest_told}
 use Rattle.listener.specs.declared.head.Phase.TheVariants.{Telling}
@@ -27,9 +27,6 @@ use Rattle.listener.proofs.Counts.{zero_long, listed_few, mark, mark₁, known, 
 
 settled_lower : (a : ℕ) (c : Event) → Lower (was_settled a c)
 settled_lower a c x y q h = grind (arith, nat_tests)
-
-asked_alike : (a b : ℕ) (c x y : Event) → same x y ≡ true → (leb x.time b && not (was_settled a c x)) ≡ (leb y.time b && not (was_settled a c y))
-asked_alike a b c x y h = grind (arith, nat_tests)
 
 -- a search may begin at any of the last events
 pub placed_first : (l u k a : ℕ) → 1 ≤ k → k ≤ 6 → u ≤ l → a ≤ u → placed l u k (begin_at a) ≡ true
@@ -88,7 +85,7 @@ module _ (p : Pattern) (n : ℕ) (es : List Event) (f : Event) (num : Numbered n
   just : Just listed asked k u
   just =
       record {
-        alike = asked_alike m m₁ c;
+        alike = λ x y h. grind (arith, nat_tests);
         lower = λ i l. let q = front_passes (was_settled m c) (settled_lower m c) listed listed_ord i (omega (arith, known_is p n es f num in_time)) in grind (arith, nat_tests);
         mid =
             λ i a b.

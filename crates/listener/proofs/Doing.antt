@@ -1,5 +1,5 @@
 -- What the code does is what the machine does, case by case, over plain variables.
-use Rattle.std.proofs.Common.{◌≡◌, ℕ, ◌+◌, ◌-◌, ◌%◌, ◌<◌, ◌≤◌, Bool, true, false, ltb, max, List, ◌++◌, length, take, drop, Some, None, Option, Ok, Result, sym, refl, ap, ◌∙◌, subst, arith, le-ltb, lt-ltb}
+use Rattle.std.proofs.Common.{◌≡◌, ℕ, ◌+◌, ◌-◌, ◌%◌, ◌<◌, ◌≤◌, Bool, true, false, ltb, max, List, ◌++◌, length, take, drop, Some, None, Option, Ok, Result, sym, refl, subst, arith, le-ltb, lt-ltb}
 use Rattle.std.proofs.lemmas.List.{length-take-le}
 use Rattle.std.proofs.lemmas.Bool.Decides.{nat_tests as by_tests}
 use mir.Val.{bool_byte}
@@ -20,7 +20,7 @@ use Rattle.listener.specs.declared.acts.Told.{Told}
 use Rattle.listener.specs.declared.acts.Refusal.{Refusal}
 use Rattle.listener.specs.declared.acts.Told.TheVariants.{Row, Waits, Over as ToldOver}
 use Rattle.listener.specs.Engine.{Act, tells, waits}
-use Rattle.listener.specs.Machine.{memory_long, no_places, memory_of, cells_of, ring_of, room, stale_with, counting, hear, settled_head, settled, phase_after, act_after, with_places, tell_from, newly_told, turned}
+use Rattle.listener.specs.Machine.{memory_long, no_places, memory_of, cells_of, ring_of, room, stale_with, counting, hear, settled, phase_after, act_after, with_places, tell_from, newly_told, turned}
 use Rattle.listener.specs.Entry.{ActTold, Did}
 use Rattle.listener.proofs.Words.{cells_stay, ring_there}
 
@@ -72,27 +72,13 @@ abbrev pub settled_to : Head → ℕ → ℕ → ℕ → Head
 settled_to h start len known =
     record { count = h.count; latest = h.latest; start = start; len = len; known = known; upto = 0; stale = 0; at = no_places }
 
-pub settles :
-    (m m₁ : List ℕ) (h : Head) (ph : Phase) (start len known : ℕ) → length m ≡ memory_long
-    → m₁ ≡ take 419 m ++ with_forgotten (ring_of m) h.start h.stale
-    → (start ≡ (h.start + h.stale) % capacity) × (len ≡ h.len - h.stale) → known ≡ h.upto - h.stale
-    → memory_of ph (settled_to h start len known) (cells_of m₁) (ring_of m₁)
-    ≡ memory_of ph (settled_head h) (cells_of m) (with_forgotten (ring_of m) h.start h.stale)
-settles m m₁ h ph start len known long e (a, b) k =
-    let r : List ℕ = with_forgotten (ring_of m) h.start h.stale in
-    rw (e, a, b, k, cells_stay m r long, ring_there m r long) refl
-
 pub settled_does :
     (m m₁ m₂ out : List ℕ) (h : Head) (ph : Phase) (next : Phase × Told) (start len known : ℕ) → After ph next → length m ≡ memory_long
     → m₁ ≡ take 419 m ++ with_forgotten (ring_of m) h.start h.stale → start ≡ (h.start + h.stale) % capacity → len ≡ h.len - h.stale → known ≡ h.upto - h.stale
     → m₂ ≡ memory_of next.0 (settled_to h start len known) (cells_of m₁) (ring_of m₁) → Did (settled ph h (cells_of m) (ring_of m)) (Ok next.1) m₂ out out
 settled_does m m₁ m₂ out h ph next start len known after long e a b k stored =
-    record {
-      memory =
-          stored ∙ settles m m₁ h next.0 start len known long e (a, b) k
-          ∙ ap (λ (ph : Phase). memory_of ph (settled_head h) (cells_of m) (with_forgotten (ring_of m) h.start h.stale)) after.0;
-      told = after.1 out;
-    }
+    let r : List ℕ = with_forgotten (ring_of m) h.start h.stale in
+    record { memory = rw (stored, after.0, e, a, b, k, cells_stay m r long, ring_there m r long) refl; told = after.1 out }
 
 -- TELLING
 module _ (ph : Phase) (h : Head) (cells ring : List ℕ) (c : Cursor) where

@@ -1,6 +1,6 @@
 -- What the listener is told, case by case: each check hands on its value, or it is refused and nothing is changed.
 use Rattle.std.proofs.Common.{◌≡◌, ℕ, ◌+◌, ◌≤◌, true, false, List, length, take, drop, Some, None, Ok, Err, Result, sym, refl, ap, ◌∙◌, arith, rules}
-use Rattle.std.proofs.lemmas.List.{same_lists, places, length-take-le, length-drop}
+use Rattle.std.proofs.lemmas.List.{same_lists, places}
 use Rattle.std.proofs.lemmas.Slice.{between-put_mid, drop-put_mid}
 use borrow.Rule.Slice.PartMut.{put_mid}
 use Rattle.timeline.specs.declared.events.Event.{Event}
@@ -82,9 +82,6 @@ module _ (m out : List ℕ) where
 pub not_kept : (e : NotKept) (row before after : List ℕ) → length before ≡ 405 → Keeps row before after (Err e) → (a_pattern (pattern_in row) ≡ false) × (after ≡ before)
 not_kept IsNone row before after l k = (k.1, k.2)
 not_kept NotAsLong row before after l k = absurd (k.0 l)
-
-pub cells_length : (m : List ℕ) → length m ≡ memory_long → length (take 405 (drop 14 m)) ≡ 405
-cells_length m l = length-take-le 405 (drop 14 m) (omega (arith, length-drop 14 m))
 
 -- an event comes
 module _ (m out : List ℕ) (t k w v : ℕ) where

@@ -1,7 +1,7 @@
 -- The listener's memory never grows, nor do its numbers: for every memory and whatever it is told.
-use Rattle.std.proofs.Common.{◌≡◌, ℕ, zero, suc, Bool, true, false, ◌&&◌, eqb, List, length, get_or, drop, replicate, Some, None, sym, refl, ap, ◌∙◌, arith}
+use Rattle.std.proofs.Common.{◌≡◌, ℕ, zero, suc, Bool, true, false, ◌&&◌, eqb, List, length, get_or, drop, replicate, Some, None, sym, refl, ◌∙◌, arith}
 use Rattle.std.proofs.ByRecursion.{All-take, All-drop}
-use Rattle.std.proofs.lemmas.List.{length-take, length-drop, length-replicate}
+use Rattle.std.proofs.lemmas.List.{length-drop, length-replicate}
 use Rattle.std.proofs.lemmas.Bool.{and_parts, eqb-true}
 use Rattle.std.proofs.lemmas.Bool.Decides.{nat_tests as by_tests}
 use Rattle.timeline.specs.Lists.{pick, every}
@@ -17,6 +17,7 @@ use Rattle.listener.specs.declared.head.Head.{Head}
 use Rattle.listener.specs.Engine.{ToldIt, begins, comes, ends, next, refused, Stepped, all_small}
 use Rattle.listener.specs.Promise.{Steady}
 use Rattle.listener.specs.Machine.{memory_long, phase_number, head_of, cells_of, ring_of, a_head, head_at, stepped, with_some, cursor_of, blank, begun, event_of, came, ending_head, ended, resumed, gone_on, machine, own}
+use Rattle.listener.proofs.Words.{cells_length}
 use Rattle.listener.proofs.Small.{Small, Smalls, test_smalls, smalls_test, small_event, SmallHead, head_small}
 use Rattle.listener.proofs.SmallHeads.{blank_small, ending_small, bounds, begin_small}
 use Rattle.listener.proofs.Written.{Parts, Written, written, tell_written, heard_written}
@@ -32,9 +33,6 @@ module _ (m : List ℕ) (long : length m ≡ memory_long) where
   stays : (m₁ : List ℕ) → Written (Smalls m) m₁ → Stays m m₁
   stays m₁ w = (w.long ∙ sym long, w.smalls)
 
-  cells_wide : length (cells_of m) ≡ 405
-  cells_wide = length-take 405 (drop 14 m) ∙ omega (arith, length-drop 14 m)
-
   ring_whole : length (ring_of m) ≡ ring_long
   ring_whole = length-drop 419 m ∙ omega arith
 
@@ -42,7 +40,7 @@ module _ (m : List ℕ) (long : length m ≡ memory_long) where
   as_it_was : (h : Head) → (Smalls m → SmallHead h) → Parts (Smalls m) h (cells_of m) (ring_of m)
   as_it_was h state =
       record {
-        wide = cells_wide;
+        wide = cells_length m long;
         long = ring_whole;
         state = state;
         words = λ a. All-take Small 405 (drop 14 m) (All-drop Small 14 m a);
@@ -140,14 +138,10 @@ unfolding every
 zeros zero = refl
 zeros (suc n) = zeros n
 
-start_is : own.start ≡ replicate memory_long 0
-unfolding own
-start_is = refl
-
 pub steady_proof : Steady own
-unfolding Steady all_small
+unfolding Steady all_small own
 steady_proof = (
-  omega (arith, ap length start_is, length-replicate {A = ℕ} memory_long 0),
-  ap (every (λ x. eqb x 0)) start_is ∙ zeros memory_long,
+  omega (arith, length-replicate {A = ℕ} memory_long 0),
+  zeros memory_long,
   λ m ev. ((own_stays m ev).0, λ a. smalls_test (own.step m ev).memory ((own_stays m ev).1 (test_smalls m a))),
 )

@@ -2,7 +2,7 @@
 use Rattle.std.proofs.Common.{◌≡◌, ℕ, zero, suc, ◌+◌, false, ltb, List, [], ◌∷◌, ◌++◌, length, drop, sym, refl, ap, ◌∙◌, subst, add_comm, arith}
 use Rattle.std.proofs.lemmas.Bool.Decides.{nat_tests as by_tests}
 use Rattle.timeline.specs.declared.events.Event.{Event}
-use Rattle.timeline.specs.Lists.{pick, each, those}
+use Rattle.timeline.specs.Lists.{each, those}
 use Rattle.timeline.specs.Order.{last_of}
 use Rattle.timeline.proofs.Lists.{drop_front}
 use Rattle.timeline.proofs.Each.{each_append}
@@ -47,10 +47,7 @@ end_ends (tells r) z q = absurd z
 end_ends waits z q = omega arith
 end_ends late z q = omega arith
 end_ends over z q = omega arith
-end_ends (refused k) z q = go k q
-  where
-    go : (k : ℕ) → pick (ltb k 900) (10 + k) 1001 ≡ 1000 → ⊥
-    go k q = grind (arith, by_tests)
+end_ends (refused k) z q = grind (arith, by_tests)
 
 -- any run that ends tells what one telling has
 pub ran_as :

@@ -53,6 +53,9 @@ module _ (ph : Phase) (h : Head) (cells ring : List ℕ) where
       let same : eqb (phase_number ph) (phase_number ph) ≡ true = grind (arith, nat_tests) in
       ap (λ (g : Head). pick (eqb (phase_number ph) (phase_number ph) && a_head g) (Some g) None) (head_back e) ∙ rw (same, ok)
 
+pub cells_length : (m : List ℕ) → length m ≡ memory_long → length (cells_of m) ≡ 405
+cells_length m l = length-take-le 405 (drop 14 m) (omega (arith, length-drop 14 m))
+
 pub behind_head : (m : List ℕ) → drop 14 m ≡ cells_of m ++ ring_of m
 behind_head m = sym (ap (λ (r : List ℕ). take 405 (drop 14 m) ++ r) (sym (drop-drop 405 14 m)) ∙ take-append-drop 405 (drop 14 m))
 

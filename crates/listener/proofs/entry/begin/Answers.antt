@@ -3,7 +3,8 @@ use Rattle.patterns.specs.Numbers.{pattern_in}
 use Rattle.patterns.proofs.Words.{pattern_cells_long}
 use Rattle.listener.specs.declared.head.Phase.TheVariants.{Waiting}
 use Rattle.listener.specs.Machine.{memory_of, blank}
-use Rattle.listener.proofs.Saying.{begun_out, begun_none, begun_some, cells_given, cells_new, ring_as_was, not_kept, cells_length}
+use Rattle.listener.proofs.Saying.{begun_out, begun_none, begun_some, cells_given, cells_new, ring_as_was, not_kept}
+use Rattle.listener.proofs.Words.{cells_length}
 use Rattle.listener.proofs.entry.begin.Goals as goal
 
 pub returns-in_default : goal.returns-in_default

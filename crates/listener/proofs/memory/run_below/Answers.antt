@@ -1,11 +1,11 @@
-use Rattle.std.proofs.Common.{ℕ, ◌+◌, ◌<◌, ◌≤◌, drop, ◌∙◌, ap₂, rules}
+use Rattle.std.proofs.Common.{◌<◌, ◌≤◌, refl, ◌∙◌, rules}
 use borrow.Author.Tests.{tests}
 use Rattle.std.proofs.lemmas.Iterator.{first_from_Range}
 use Rattle.std.proofs.lemmas.List.FromFn.{length-map-range_with_len}
 use Rattle.timeline.specs.Order.{nth}
-use Rattle.timeline.specs.Ring.{slot, events}
+use Rattle.timeline.specs.Ring.{slot}
 use Rattle.timeline.specs.Held.{held_in}
-use Rattle.listener.specs.Machine.{ring_of, below_run}
+use Rattle.listener.specs.Machine.{ring_of}
 use Rattle.listener.proofs.Fronts.{run_found}
 use Rattle.listener.proofs.memory.run_below.Goals as goal
 
@@ -19,4 +19,4 @@ returns-clause-value c =
     c.unwrap_or.ensures
     ∙ run_found b c.args.from s.len c.args.head.len (held_in (ring_of m) s) c.find.result (length-map-range_with_len (slot (ring_of m)) s.start s.len)
     c.span_of-span.ensures.len c.requires.from found
-    ∙ ap₂ (λ (x y : ℕ). c.args.from + below_run b (drop c.args.from (events (ring_of m) x y))) c.span_of-span.ensures.start c.span_of-span.ensures.len
+    ∙ rw (c.span_of-span.ensures.start, c.span_of-span.ensures.len) refl
