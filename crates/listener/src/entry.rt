@@ -41,6 +41,7 @@ fn is_event(e: Event) -> bool
 fn begin(memory: &mut Memory, row: &[u64], out: &mut Row) -> Result<Told, Refusal>
     ensures { Did (begun memory.old (pattern_in row.now)) result memory.new out.old out.new }
 {
+    // A check stands by itself, before what it is for: it hands on its value, or the function is left there, by `let .. else`.
     let Some(_) = Head::in_phase(memory, Phase::New) else {
         return Err(Refusal::OutOfTurn);
     };
