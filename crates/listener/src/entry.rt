@@ -116,7 +116,8 @@ fn resume(memory: &mut Memory, phase: Phase, head: Head, out: &mut Row) -> Resul
     tell(memory, phase, head, cursor, out)
 }
 
-// It is to go on telling.
+// It is to go on telling. The head is looked at for each phase in which rows are told: one look for both would have to read the phase back
+// from its word, which nothing else needs.
 fn go_on(memory: &mut Memory, out: &mut Row) -> Result<Told, Refusal>
     ensures { Did (gone_on memory.old) result memory.new out.old out.new }
 {

@@ -176,6 +176,7 @@ pub enum Turn {
     Late,
     // More would have to be held than there is room for.
     Full,
-    // It counts: the state then, and whether the pattern names the event, so that it has to be held.
+    // It counts: the state then, and whether the pattern names the event, so that it has to be held. One variant for both, as the
+    // definitions have it: the state, and what is known of it, is the same whether the event is named or not.
     Counts { head: Head, named: bool },
 }

@@ -41,13 +41,14 @@ pub fn run_below(memory: &Memory, head: Head, from: usize, bound: u64) -> usize
     ensures from { from ≤ result }
     ensures len { result ≤ head.len }
 {
+    // One by one: each event is passed at most twice, as newly known and as stale, so that a call looks at few; halves would look at more.
     let span = span_of(head);
     (from..head.len)
         .find(|i| !is_below(memory, span, *i, bound))
         .unwrap_or(head.len)
 }
 
-// Puts an event into the ring where it belongs.
+// Puts an event into the ring where it belongs. In the clauses, 419 is where the ring begins.
 pub fn hold(memory: &mut Memory, head: Head, e: Event)
     requires in_ring { InRing head }
     requires room { head.len < capacity }

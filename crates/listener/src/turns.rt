@@ -60,6 +60,7 @@ fn settle(memory: &mut Memory, phase: Phase, head: Head, out: &mut Row) -> Resul
         at: [0; MOST_STEPS],
         ..head
     };
+    // Rows are told in two phases alone; the definition gives each other phase what it gives `Telling`.
     let (next, told) = match phase {
         Phase::Ending => (Phase::Over, Told::Over),
         _ => (Phase::Waiting, Told::Waits),
