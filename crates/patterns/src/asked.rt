@@ -26,10 +26,8 @@ impl Comparison {
     fn is_with_who_of(self, earlier: usize) -> bool
         ensures { result ≡ with_who_of earlier (Some (test_of self)) }
     {
-        match self.step {
-            Some(step) => step == earlier as u64 && self.other == 0,
-            None => false,
-        }
+        self.step
+            .is_some_and(|step| step == earlier as u64 && self.other == 0)
     }
 }
 
@@ -60,10 +58,8 @@ impl Kept<'_> {
         ensures value { result ≡ asks_same earlier (kept_step self.entry.words.now step).tests }
         ensures needed { result ≡ true → (es : List Event) (e : Event) → (e.who == (nth es earlier).who) ≡ false → fits_step es e (kept_step self.entry.words.now step).kind (kept_step self.entry.words.now step).tests ≡ false }
     {
-        match self.who_test(step) {
-            Some(test) => test.is_with_who_of(earlier),
-            None => false,
-        }
+        self.who_test(step)
+            .is_some_and(|test| test.is_with_who_of(earlier))
     }
 
     // The kinds of the step's nevers, of which an event is one if a never forbids it: one kind twice where there is one never, zeros where

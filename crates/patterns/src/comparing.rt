@@ -27,7 +27,7 @@ impl From<[u64; TEST_WORDS]> for Comparison {
         Comparison {
             what: Field::from(what),
             sign: Sign::from(sign),
-            step: if back == 0 { None } else { Some(step) },
+            step: (back != 0).then_some(step),
             other,
         }
     }
