@@ -17,7 +17,7 @@ pub const FIELDS: u64 = 3;
 
 pub const SIGNS: u64 = 3;
 
-// How many words a test, a never, a step and a pattern have.
+// How many words a test, a never, a step and a pattern have: 5, 22, 67 and 405.
 pub const TEST_WORDS: usize = OTHER_AT + 1;
 
 pub const NEVER_WORDS: usize = TESTS_AT + 1 + MOST_TESTS * TEST_WORDS;

@@ -1,11 +1,16 @@
 // Patterns on small examples: each limit at its edge, the largest pattern, words of garbage, tests and nevers tried.
+use crate::layout::{
+    KINDS, MOST_NEVERS, MOST_STEPS, MOST_TESTS, NEVER_WORDS, NEVERS_AT, NUMBERS, STEP_WORDS,
+    STEPS_AT, TESTS_AT,
+};
 use crate::*;
+use std::array;
 use std::test::Fail;
 use timeline::Event;
 
-const MOST: u64 = 18_446_744_073_709_551_615;
+const MOST: u64 = u64::MAX;
 
-const TOP: u64 = 4_611_686_018_427_387_903;
+const TOP: u64 = NUMBERS - 1;
 
 // Two steps: kind 1; then kind 2 with the same who and a value of 100 or more, and no kind 3 before the time 50 between.
 const ROW: [u64; 26] = [
@@ -71,19 +76,37 @@ fn kept(row: &[u64]) -> Result<[u64; PATTERN_WORDS], Refusal> {
     Ok(words)
 }
 
-// Six steps, each with four tests and two nevers of four tests.
-fn largest() -> [u64; PATTERN_WORDS] {
-    let mut row = [6; PATTERN_WORDS];
-    for i in 3..PATTERN_WORDS {
-        row[i] = match (i - 3) % 67 {
-            0 | 23 | 45 => 65_535,
-            1 | 24 | 46 => 4,
-            22 => 2,
-            _ if i < 3 + 2 * 67 => 0,
-            _ => 1,
-        };
+// Where two nevers of a step begin.
+const NEVER: usize = NEVERS_AT + 1;
+
+const OTHER_NEVER: usize = NEVER + NEVER_WORDS;
+
+// Where the tests of both begin.
+const NEVER_TESTS: usize = NEVER + TESTS_AT;
+
+const OTHER_TESTS: usize = OTHER_NEVER + TESTS_AT;
+
+// A word of a step with four tests and two nevers of four tests: all are `test`, word by word.
+fn largest_word(place: usize, test: u64) -> u64 {
+    match place {
+        0 | NEVER | OTHER_NEVER => KINDS - 1,
+        TESTS_AT | NEVER_TESTS | OTHER_TESTS => MOST_TESTS as u64,
+        NEVERS_AT => MOST_NEVERS as u64,
+        _ => test,
     }
-    row
+}
+
+// Six such steps; the first two compare with numbers, the others with the second.
+fn largest() -> [u64; PATTERN_WORDS] {
+    array::from_fn(|i: usize| {
+        if i < STEPS_AT {
+            MOST_STEPS as u64
+        } else {
+            let place = i - STEPS_AT;
+            let test = if place < 2 * STEP_WORDS { 0 } else { 1 };
+            largest_word(place % STEP_WORDS, test)
+        }
+    })
 }
 
 // The largest pattern is its own words, since no room is left; one more of anything is refused.
@@ -99,7 +122,10 @@ fn largest_and_least(rt: HostRuntime) {
         assert_eq!(rt; kept(&more), Err(Refusal::NoPattern));
     }
     assert_eq!(rt; kept(&[]), Err(Refusal::NoPattern));
-    assert_eq!(rt; keep(&row, &mut [7; 404]), Err(Refusal::NotAsLong));
+    assert_eq!(rt;
+        keep(&row, &mut [7; PATTERN_WORDS - 1]),
+        Err(Refusal::NotAsLong)
+    );
     let mut least = [0; PATTERN_WORDS];
     least[2] = 1;
     least[3] = 9;
@@ -113,7 +139,7 @@ fn tries(rt: HostRuntime) -> Result<(), Fail> {
     row[10] = 2;
     let words = kept(&row)?;
     assert_eq!(rt; [words[74], words[75]], [1, 0]);
-    let kept = Kept::over(&words).ok_or(1u8)?;
+    let kept = Kept::over(&words).expect(&rt, "as many words as a pattern has");
     assert_eq!(rt; [kept.within(), kept.late(), kept.kind_of(1)], [10, 5, 2]);
     assert_eq!(rt; [kept.has_nevers(0), kept.has_nevers(1)], [false, true]);
     assert_eq!(rt; [kept.is_named(3), kept.is_named(4)], [true, false]);
@@ -138,7 +164,7 @@ fn tries(rt: HostRuntime) -> Result<(), Fail> {
 fn garbage(rt: HostRuntime) -> Result<(), Fail> {
     let words = [MOST; PATTERN_WORDS];
     assert!(rt; Kept::over(&words[1..]).is_none());
-    let kept = Kept::over(&words).ok_or(1u8)?;
+    let kept = Kept::over(&words).expect(&rt, "as many words as a pattern has");
     assert_eq!(rt; [kept.steps(), kept.kind_of(6) as usize], [6, 0]);
     assert_eq!(rt; [kept.has_nevers(5), kept.has_nevers(6)], [true, false]);
     assert_eq!(rt; [kept.is_named(MOST), kept.is_named(0)], [true, false]);
