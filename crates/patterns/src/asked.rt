@@ -63,7 +63,8 @@ impl Kept<'_> {
     }
 
     // The kinds of the step's nevers, of which an event is one if a never forbids it: one kind twice where there is one never, zeros where
-    // there is none. Two numbers and no list: the search compares the kind of each event that it passes with both.
+    // there is none. Two numbers and no list: the search compares the kind of each event that it passes with both. Zeros and no None: the
+    // search asks `has_nevers` first, and where there is no never, no event is forbidden, whatever its kind.
     pub fn never_kinds(self, step: usize) -> (u64, u64)
         ensures value { (result.0 ≡ first_kind (kept_step self.entry.words.now step).never) × (result.1 ≡ other_kind (kept_step self.entry.words.now step).never) }
         ensures needed { (es : List Event) (e : Event) → (e.kind == result.0) ≡ false → (e.kind == result.1) ≡ false → any (λ n. fits_step es e n.kind n.tests) (kept_step self.entry.words.now step).never ≡ false }

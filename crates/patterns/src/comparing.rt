@@ -5,7 +5,8 @@ ghost use Rattle.patterns.specs.Codes.{test_of, comparison};
 ghost use Rattle.patterns.specs.Reading.{other_may, ReadsTest};
 
 use crate::fields::{Field, Sign};
-use crate::layout::{BACK_AT, FIELDS, NUMBERS, OTHER_AT, SIGN_AT, SIGNS, STEP_AT, TEST_WORDS};
+use crate::layout::{FIELDS, NUMBERS, SIGNS, TEST_WORDS};
+use std::array;
 
 // A test: what is compared, how, and with what.
 #[derive(Clone, Copy, PartialEq, Eq, Debug)]
@@ -77,18 +78,12 @@ impl Comparison {
         Some(test)
     }
 
-    // The test at a place of a row; None where no step with so many before it may have it.
+    // The test at a place of a row, which is no longer than the largest pattern; None where no step with so many before it may have it.
     pub(crate) fn read(row: &[u64], pos: usize, before: u64) -> Option<Comparison>
-        requires { pos ≤ 2000 }
+        requires { pos ≤ 405 }
         ensures { ReadsTest before (kept_test row.now pos) result }
     {
-        let words = [
-            number_at(row, pos),
-            number_at(row, pos + SIGN_AT),
-            number_at(row, pos + BACK_AT),
-            number_at(row, pos + STEP_AT),
-            number_at(row, pos + OTHER_AT),
-        ];
+        let words = array::from_fn(|i: usize| number_at(row, pos + i));
         Comparison::checked(words, before)
     }
 }

@@ -7,7 +7,7 @@ use crate::layout::{
 };
 use crate::views::{StepView, at_most};
 
-// Where no step can be, all words are read as 0.
+// Where no step can be, all words are read as 0: the definitions say so of words behind an end, and a search asks for no such step.
 const NO_STEP: [u64; STEP_WORDS] = [0; STEP_WORDS];
 
 // Whatever the words are, they are a pattern: counts that are too large are read as the most there can be.
@@ -49,13 +49,14 @@ impl<'a> Kept<'a> {
     pub(crate) fn step(self, step: usize) -> StepView<'a>
         ensures { step_in result.words.now ≡ kept_step self.entry.words.now step }
     {
+        // Named first: the check takes no part of what a field refers to.
         let words = self.words;
         let (steps, _) = words[STEPS_AT..].as_chunks();
         let words = steps.get(step).unwrap_or(&NO_STEP);
         StepView { words }
     }
 
-    // The kind of a step, and 0 where no step can be.
+    // The kind of a step, and 0 where no step can be: no Option, since the definitions read a step wherever one is asked for.
     pub fn kind_of(self, step: usize) -> u64
         ensures { result ≡ (kept_step self.entry.words.now step).kind }
     {

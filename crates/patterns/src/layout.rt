@@ -18,7 +18,7 @@ pub const FIELDS: u64 = 3;
 pub const SIGNS: u64 = 3;
 
 // How many words a test, a never, a step and a pattern have: 5, 22, 67 and 405.
-pub const TEST_WORDS: usize = OTHER_AT + 1;
+pub const TEST_WORDS: usize = 5;
 
 pub const NEVER_WORDS: usize = TESTS_AT + 1 + MOST_TESTS * TEST_WORDS;
 
@@ -39,12 +39,3 @@ pub const STEPS_AT: usize = 3;
 pub const TESTS_AT: usize = 1;
 
 pub const NEVERS_AT: usize = NEVER_WORDS;
-
-// Where a test's words stand, behind the field that is compared.
-pub const SIGN_AT: usize = 1;
-
-pub const BACK_AT: usize = 2;
-
-pub const STEP_AT: usize = 3;
-
-pub const OTHER_AT: usize = 4;

@@ -1,4 +1,5 @@
 // The parts of a kept pattern, each a view of its words, which are read as they stand: a count that is too large is the most there can be.
+// `let words = self.words;` stands in front wherever a part is taken: the check takes none of what a field refers to, as `self.words[1..]`.
 ghost use Rattle.std.specs.Prelude.{◌≡◌, ◌+◌, ◌*◌, ◌<◌, ◌≤◌, length, take, drop, slice_index};
 ghost use Rattle.timeline.specs.Lists.{each, run, none_of};
 ghost use Rattle.patterns.specs.Patterns.{fits_step};
