@@ -1,4 +1,5 @@
 -- What holds of a reader wherever it stands: what is read so far may be in a pattern, and there is room for what may come next.
+-- Assumes nothing: these are definitions.
 use Rattle.std.specs.Prelude.{◌≡◌, ℕ, ◌<◌, ◌≤◌, true, length, Some, None, Option}
 use Rattle.timeline.specs.Lists.{every}
 use Rattle.patterns.specs.Limits.{a_test, some_steps}

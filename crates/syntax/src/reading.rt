@@ -40,9 +40,9 @@ pub fn row_of(text: &[u8]) -> Result<Row, Stop>
 {
     let mut reader = Reader::new();
     for (at, byte) in text.iter().enumerate() {
-        if let Err(expected) = reader.read(*byte) {
-            return Err(Stop { at, expected });
-        }
+        reader
+            .read(*byte)
+            .map_err(|expected| Stop { at, expected })?;
     }
     reader.finish().map_err(|expected| Stop {
         at: text.len(),

@@ -67,11 +67,7 @@ fn begin_sign(head: Head, what: Field, byte: u8) -> Option<Move>
 fn begin_dot(place: Place, byte: u8) -> Option<Move>
     ensures { result ≡ only_if (byte == 46) (goes (At place)) }
 {
-    if byte == b'.' {
-        Some(Move::to(Stand::At(place)))
-    } else {
-        None
-    }
+    (byte == b'.').then_some(Move::to(Stand::At(place)))
 }
 
 fn begin_part(head: Head, part: Part, names: &[u8], byte: u8) -> Option<Move>

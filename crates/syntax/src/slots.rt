@@ -25,12 +25,9 @@ impl Slot {
         requires { digit byte ≡ true }
         ensures { result ≡ counted self so_far byte }
     {
-        let limit = self.limit();
-        if so_far > limit / 10 {
-            return None;
-        }
-        let value = so_far * 10 + u64::from(byte - b'0');
-        if value >= limit {
+        let digit = u64::from(byte - b'0');
+        let value = so_far.checked_mul(10)?.checked_add(digit)?;
+        if value >= self.limit() {
             return None;
         }
         Some(Move::to(Stand::Digits(self, value)))

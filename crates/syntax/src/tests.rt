@@ -1,5 +1,6 @@
 // Typed patterns on examples: the night, refusals at their bytes, limits at their edges, the largest pattern, texts cut short.
 use crate::*;
+use patterns::PATTERN_WORDS;
 use std::alloc::AllocError;
 use std::test::Fail;
 
@@ -7,11 +8,11 @@ const NIGHT: &str = "1 d; not 3; 2 l where l.who = d.who; within 60 late 20";
 
 // How many numbers a text reads as, or the byte at which it is refused.
 fn outcome(text: &[u8]) -> Result<usize, usize> {
-    let mut row = [0u64; 405];
+    let mut row = [0u64; PATTERN_WORDS];
     match read(text, &mut row) {
         Ok(count) => Ok(count),
         Err(Refusal::At(byte, _)) => Err(byte),
-        Err(Refusal::Short(_)) => Err(405),
+        Err(Refusal::Short(_)) => Err(PATTERN_WORDS),
     }
 }
 
@@ -109,7 +110,7 @@ fn largest(rt: HostRuntime) -> Result<(), Fail> {
         test = [1, 1, 1, n, 2];
     }
     let text = write(rt.alloc(), row.as_slice())?;
-    let mut again = [0u64; 405];
+    let mut again = [0u64; PATTERN_WORDS];
     assert!(rt; read(text.as_bytes(), &mut again).is_ok());
     assert!(rt; row.as_slice() == again.as_slice());
     Ok(())

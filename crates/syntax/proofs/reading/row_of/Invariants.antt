@@ -6,4 +6,4 @@ use Rattle.syntax.proofs.reading.row_of.Given as goal
 
 -- the bytes that are left give the whole
 abbrev pub invariant-loop-at : goal.invariant-loop-at
-invariant-loop-at l = (s : State) × Stands l.reader s × Sound s × (runs l.at s (drop l.at l.text) ≡ reads l.text)
+invariant-loop-at l = (s : State) × Stands l.reader s × Sound s × (runs l.at-counter s (drop l.at-counter l.text) ≡ reads l.text)
