@@ -4,7 +4,11 @@ ghost use Rattle.listener.specs.Machine.{phase_number, head_words, memory_of, he
 
 use patterns::PATTERN_WORDS;
 use patterns::layout::{MOST_STEPS, NUMBERS};
+use std::array;
 use timeline::{CAPACITY, RING_LONG};
+
+// Where the positions of the search stand in the memory, behind the other words of the state.
+const AT: usize = 8;
 
 // Where the pattern and the ring begin in the memory, and how many numbers it has.
 pub const CELLS: usize = 14;
@@ -99,23 +103,7 @@ impl Head {
     fn load(memory: &Memory) -> Head
         ensures { result ≡ head_of memory.now }
     {
-        let [
-            _,
-            count,
-            latest,
-            start,
-            len,
-            known,
-            upto,
-            stale,
-            a,
-            b,
-            c,
-            d,
-            e,
-            f,
-            ..
-        ] = *memory;
+        let [_, count, latest, start, len, known, upto, stale, ..] = *memory;
         Head {
             count,
             latest,
@@ -124,9 +112,7 @@ impl Head {
             known: known as usize,
             upto: upto as usize,
             stale: stale as usize,
-            at: [
-                a as usize, b as usize, c as usize, d as usize, e as usize, f as usize,
-            ],
+            at: array::from_fn(|i| memory[AT + i] as usize),
         }
     }
 
