@@ -1,5 +1,6 @@
 // The words in front of the memory: what the listener is doing, and where.
-ghost use Rattle.std.specs.Prelude.{◌≡◌, ◌∷◌, IfSome};
+ghost use Rattle.std.specs.Prelude.{◌≡◌, ◌∷◌, ◌++◌, IfSome};
+ghost use Rattle.rows.specs.Finding.{six};
 ghost use Rattle.listener.specs.Machine.{phase_number, head_words, memory_of, head_of, cells_of, ring_of, a_head, Bounded, head_at};
 
 use patterns::PATTERN_WORDS;
@@ -125,11 +126,10 @@ impl Head {
         (memory[0] == u64::from(phase) && head.holds()).then_some(head)
     }
 
-    // The words in which it stands, behind that of the phase.
-    fn words(self, phase: Phase) -> [u64; CELLS]
-        ensures { result ≡ phase_number phase ∷ head_words self }
+    // The words in which it stands: that of the phase, and those before the positions of the search.
+    fn words(self, phase: Phase) -> [u64; AT]
+        ensures { result ++ six self.at ≡ phase_number phase ∷ head_words self }
     {
-        let [a, b, c, d, e, f] = self.at;
         [
             u64::from(phase),
             self.count,
@@ -139,19 +139,21 @@ impl Head {
             self.known as u64,
             self.upto as u64,
             self.stale as u64,
-            a as u64,
-            b as u64,
-            c as u64,
-            d as u64,
-            e as u64,
-            f as u64,
         ]
+    }
+
+    // The positions of the search as words.
+    fn places(self) -> Row
+        ensures { result ≡ six self.at }
+    {
+        self.at.map(|place| place as u64)
     }
 
     pub fn store(self, memory: &mut Memory, phase: Phase)
         ensures { memory.new ≡ memory_of phase self (cells_of memory.old) (ring_of memory.old) }
     {
-        memory[..CELLS].copy_from_slice(&self.words(phase));
+        memory[..AT].copy_from_slice(&self.words(phase));
+        memory[AT..CELLS].copy_from_slice(&self.places());
     }
 }
 
