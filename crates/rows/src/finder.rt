@@ -1,10 +1,12 @@
 // All rows of a pattern among events, found by looking through everything, step by step as the definition has it. It is what other ways
-// to find them are compared with, so it is plain and shares nothing with them.
-ghost use Rattle.std.specs.Prelude.{◌≡◌, [], IfOk};
+// to find them are compared with, so it is plain. With them it shares what patterns gives of a pattern: `keep`, and the trying of an event
+// by the tests and nevers of a step (`Kept::fits`, `Kept::hit`). Order, window and what lies between are its own.
+ghost use Rattle.std.specs.Prelude.{◌≡◌, true, false, [], IfOk, IfErr};
 ghost use Rattle.timeline.specs.Lists.{each};
 ghost use Rattle.patterns.specs.Kept.{kept_pattern};
 ghost use Rattle.rows.specs.Rows.{rows as rows_of, all_rows};
 ghost use Rattle.rows.specs.Known.{numbers as numbers_of, counted as counted_of};
+ghost use Rattle.patterns.specs.Limits.{a_pattern};
 ghost use Rattle.patterns.specs.Numbers.{pattern_in};
 ghost use Rattle.rows.specs.Finder.{lists, Finds};
 ghost use Rattle.rows.specs.declared.finder.FindError.TheVariants.{NoPattern, Memory};
@@ -72,6 +74,16 @@ fn all_numbers(heap: Global, rows: &[Vec<Event>]) -> Result<Vec<Vec<u64>>, Alloc
     Ok(all)
 }
 
+// The words of the pattern that a row of numbers says.
+fn words_of(row: &[u64]) -> Result<[u64; PATTERN_WORDS], FindError>
+    ensures ok { IfOk result (λ words. (a_pattern (pattern_in row.now) ≡ true) × (kept_pattern words ≡ pattern_in row.now)) }
+    ensures err { IfErr result (λ e. (e ≡ NoPattern) × (a_pattern (pattern_in row.now) ≡ false)) }
+{
+    let mut words = [0; PATTERN_WORDS];
+    keep(row, &mut words)?;
+    Ok(words)
+}
+
 fn find_kept(heap: Global, pattern: Kept<'_>, events: &[Event]) -> Result<Vec<Vec<u64>>, AllocError>
     ensures { IfOk result (λ v. lists v.items ≡ each numbers_of (all_rows (kept_pattern pattern.entry.words.now) events.now)) }
 {
@@ -85,8 +97,7 @@ fn find_kept(heap: Global, pattern: Kept<'_>, events: &[Event]) -> Result<Vec<Ve
 pub fn find_all(heap: Global, row: &[u64], events: &[Event]) -> Result<Vec<Vec<u64>>, FindError>
     ensures { Finds row.now events.now result }
 {
-    let mut words = [0; PATTERN_WORDS];
-    keep(row, &mut words)?;
+    let words = words_of(row)?;
     let rows = find_kept(heap, Kept { words: &words }, events)?;
     Ok(rows)
 }
@@ -95,8 +106,7 @@ pub fn find_all(heap: Global, row: &[u64], events: &[Event]) -> Result<Vec<Vec<u
 pub fn find_counted(heap: Global, row: &[u64], events: &[Event]) -> Result<Vec<Vec<u64>>, FindError>
     ensures { Finds row.now (counted_of (pattern_in row.now) events.now) result }
 {
-    let mut words = [0; PATTERN_WORDS];
-    keep(row, &mut words)?;
+    let words = words_of(row)?;
     let pattern = Kept { words: &words };
     let counted = counted(heap, pattern.late(), events)?;
     let rows = find_kept(heap, pattern, &counted)?;
