@@ -29,7 +29,7 @@ impl<'a> Model for Held<'a> {
 pub fn is_within(time: u64, first: u64, within: u64) -> bool
     ensures { result ≡ nat_le time (first + within) }
 {
-    time <= first || time - first <= within
+    time.saturating_sub(first) <= within
 }
 
 // The first place of a part whose event passes a test; the part's length where there is none.
@@ -39,10 +39,9 @@ fn first_in<F: Fn(Event) -> bool>(part: &[[u64; EVENT_NUMBERS]], test: &F) -> us
     ensures passed { (i : ℕ) → i < result → F.post test.now (event_of (slice_index_or part.now i [])) false }
     ensures stops { result < length part.now → F.post test.now (event_of (slice_index_or part.now result [])) true }
 {
-    match part.iter().position(|numbers| test(Event::from(*numbers))) {
-        Some(i) => i,
-        None => part.len(),
-    }
+    part.iter()
+        .position(|numbers| test(Event::from(*numbers)))
+        .unwrap_or(part.len())
 }
 
 impl<'a> Held<'a> {
@@ -76,8 +75,7 @@ impl<'a> Held<'a> {
         }
     }
 
-    // The events from one position on and before an end, in the two parts. The methods below are given both positions, and no view of such a
-    // stretch: what is found is told by its position among all.
+    // The events from one position on and before an end, in the two parts.
     fn between(
         &self,
         from: usize,
