@@ -1,23 +1,22 @@
 // The finder on small cases, worked by hand.
 use crate::*;
-use std::alloc::Global;
+use std::alloc::{AllocError, Global};
 use std::process::Abort;
 use std::test::Fail;
 use timeline::Event;
 
 // Events by time and kind, all of one who.
-fn events(heap: Global, told: &[(u64, u64)]) -> Result<Vec<Event>, Fail> {
-    let mut events = Vec::new(heap);
-    for (i, (time, kind)) in told.iter().enumerate() {
-        events.push(Event {
+fn events(heap: Global, told: &[(u64, u64)]) -> Result<Vec<Event>, AllocError> {
+    told.iter()
+        .enumerate()
+        .map(|(i, (time, kind))| Event {
             heard: i as u64,
             time: *time,
             kind: *kind,
             who: 0,
             value: 0,
-        })?;
-    }
-    Ok(events)
+        })
+        .collect(heap)
 }
 
 // Whether just these rows are found, in this order; all numbers of the rows one after the other.
@@ -29,9 +28,7 @@ fn finds(
     rows: &[u64],
 ) -> Result<(), Fail> {
     let events = events(heap, told)?;
-    let Ok(found) = find_all(heap, pattern, &events) else {
-        return Err(Fail::new("no pattern"));
-    };
+    let found = find_all(heap, pattern, &events).expect(rt, "a pattern and room for its rows");
     let mut numbers = Vec::new(heap);
     for row in found.iter() {
         numbers.extend_from_slice(row)?;
@@ -96,11 +93,8 @@ fn nevers(rt: HostRuntime) -> Result<(), Fail> {
 }
 
 #[test]
-fn no_pattern(rt: HostRuntime) -> Result<(), Fail> {
+fn no_pattern(rt: HostRuntime) {
     for row in [[60u64, 20, 0, 0, 0, 0], [60, 20, 1, 65_536, 0, 0]] {
-        let Err(FindError::NoPattern) = find_all(rt.alloc(), &row, &[]) else {
-            return Err(Fail::new("a pattern"));
-        };
+        assert_eq!(rt; find_all(rt.alloc(), &row, &[]), Err(FindError::NoPattern));
     }
-    Ok(())
 }
