@@ -83,14 +83,13 @@ fn is_placed(count: usize, upto: usize, steps: usize, cursor: Cursor) -> bool
 impl Search<'_> {
     // The first row from a cursor on: the last event is chosen first, then the others from the first on, each behind the one before. A
     // search that goes back: each turn goes a level up, on at its level, or a level down, so that there is no slice and no range to run over.
-    // The label is the loop's name in its proof.
     fn first_row(&self, upto: usize, cursor: Cursor) -> Option<Found>
         requires { placed (length self.now.held) upto (length (kept_pattern self.now.kept.words.now).steps) cursor ≡ true }
         ensures { result ≡ found_first self.now.held (kept_pattern self.now.kept.words.now) cursor (to_come self.now.held (kept_pattern self.now.kept.words.now) upto cursor) }
     {
         let steps = self.kept.steps();
         let mut choice = self.choice_at(cursor);
-        'moves: loop {
+        loop {
             let depth = choice.depth;
             let end = choice.end(upto);
             if choice.at[depth] >= end {
