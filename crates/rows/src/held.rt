@@ -150,13 +150,15 @@ impl<'a> Held<'a> {
         ensures found { from < result → (result < end) × (((nth self.now result).kind == kind) ≡ true) }
         ensures last { (i : ℕ) → result < i → i < end → ((nth self.now i).kind == kind) ≡ false }
     {
-        // By positions: `find` over them leaves it open that those behind were passed, and a look through each part from its end is longer.
-        for p in (from..end).rev() {
-            if self.get(p).kind == kind {
-                return p;
-            }
+        let (front, back) = self.between(from, end);
+        let is_of_kind = |numbers: &[u64; EVENT_NUMBERS]| Event::from(*numbers).kind == kind;
+        if let Some(i) = back.iter().rposition(is_of_kind) {
+            return from + front.len() + i;
         }
-        from
+        front
+            .iter()
+            .rposition(is_of_kind)
+            .map_or(from, |i| from + i)
     }
 
     // The first position before the end from which a time is within the window; the end where there is none.
