@@ -75,7 +75,8 @@ impl<'a> Held<'a> {
         }
     }
 
-    // The events from one position on and before an end, in the two parts.
+    // The events from one position on and before an end, in the two parts. Here and below the two positions are parameters and no struct
+    // that keeps both: who asks has them for one call, and to make the struct would show the same two facts as the clauses ask.
     fn between(
         &self,
         from: usize,

@@ -17,8 +17,11 @@ use timeline::Event;
 // How many levels there can be: as many as a pattern has steps.
 pub const LEVELS: usize = MOST_STEPS;
 
-// What is chosen so far: how many positions, six of them as a cursor has them, and the events that stand there. That
-// they do is a clause of the search's methods and no field: it is said of the search's events too, and of one depth here and the next there.
+// What is chosen so far: how many positions, six of them as a cursor has them, and the events that stand there. Arrays beside a depth and no
+// list, since a cursor is six positions in lent memory and behind the depth stands the one to try next, which is part of the place. That
+// the events stand there is a clause of the search's methods and no field: it is said of the search's events too, and of one depth here and
+// the next there. So is that the depth is below the steps: it ties a choice to the search's pattern, and the loop changes the depth in place
+// between the calls, so that a struct of both would be made anew, and its fact shown, at each of them.
 #[derive(Drop)]
 pub struct Choice {
     pub depth: usize,

@@ -27,7 +27,8 @@ pub struct Found {
     pub next: Cursor,
 }
 
-// The number told at a place, of a row whose last event stands first; 0 behind the row.
+// The number told at a place, of a row whose last event stands first; 0 behind the row. By places, as the definition has it: a chain of the
+// row's rest and its first event is shorter than six, and would be put into zeros that change.
 fn number_at(row: &[Event; LEVELS], steps: usize, place: usize) -> u64
     requires few { steps ≤ 6 }
     requires within { place < 6 }
