@@ -67,11 +67,7 @@ fn numbers(heap: Global, row: &[Event]) -> Result<Vec<u64>, AllocError>
 fn all_numbers(heap: Global, rows: &[Vec<Event>]) -> Result<Vec<Vec<u64>>, AllocError>
     ensures { IfOk result (λ v. lists v.items ≡ each numbers_of (lists rows.now)) }
 {
-    let mut all = Vec::new(heap);
-    for row in rows {
-        all.push(numbers(heap, row)?)?;
-    }
-    Ok(all)
+    rows.iter().map(|row| numbers(heap, row)).try_collect(heap)
 }
 
 // The words of the pattern that a row of numbers says.

@@ -1,23 +1,28 @@
-use Rattle.std.proofs.Common.{[], ◌∷◌, ◌++◌, take, vec_items, sym, ap, ◌∙◌, ap₂}
+use Rattle.std.proofs.Common.{◌≡◌, ℕ, ◌<◌, List, [], ◌∷◌, length, get_or, vec_items, IfOk, Result, Ok, Err, rules, arith, refl, ap₂}
+use Prim.Native.Nat.{suc}
+use Rattle.std.specs.Global.{Vec}
+use Rattle.std.proofs.iter.runs.Made.{chains}
+use Rattle.timeline.specs.declared.events.Event.{Event}
 use Rattle.timeline.specs.Lists.{each}
-use Rattle.timeline.proofs.Each.{each_append}
-use Rattle.rows.specs.Known.{numbers}
+use Rattle.rows.specs.Known.{numbers as numbers_of}
 use Rattle.rows.specs.Finder.{lists}
-use Rattle.rows.proofs.Eaches.{each_more}
 use Rattle.rows.proofs.finder.all_numbers.Goals as goal
 
-pub loop-row-init : goal.loop-row-init
+-- rows by their numbers, known place by place
+placed : (rows : List (Vec Event)) (all : List (Vec ℕ)) → length all ≡ length rows
+    → ((i : ℕ) (d : Vec ℕ) (e : Vec Event) → i < length rows → vec_items (get_or all i d) ≡ numbers_of (vec_items (get_or rows i e))) → lists all ≡ each numbers_of (lists rows)
 unfolding each
-loop-row-init c = ap lists c.new-all.ensures.items
+placed [] [] l h = refl
+placed [] (x ∷ all) l h = absurd (omega (arith, l))
+placed (row ∷ rows) [] l h = absurd (omega (arith, l))
+placed (row ∷ rows) (x ∷ all) l h =
+    ap₂ (λ ns rest. ns ∷ rest) (h 0 x row (omega arith)) (placed rows all (omega (arith, l)) (λ i d e k. h (suc i) d e (omega (arith, k))))
 
-pub loop-row-preserved : goal.loop-row-preserved
-unfolding each
-loop-row-preserved c =
-    let rows = c.args.rows.now in
-    let i = c.loop-row.row-index in
-    let row = c.row-item.result in
-    ap lists c.in_ok-push.ensures.items
-    ∙ each_append vec_items (vec_items c.loop-row.all) (c.in_ok-numbers.field-0 ∷ [])
-    ∙ ap₂ (λ ns n. ns ++ n ∷ []) c.loop-row.invariant (c.in_ok-numbers.ensures ∙ ap numbers c.deref.ensures.value)
-    ∙ sym (each_append numbers (lists (take i rows)) (vec_items row ∷ []))
-    ∙ ap (each numbers) (each_more vec_items rows i row row c.loop-row-test.true c.row-item.is)
+known : {E : Type 0} (r : Result (Vec (Vec ℕ)) E) (rows : List (Vec Event))
+    → IfOk r (λ v. (length (vec_items v) ≡ length rows) × ((i : ℕ) (d : Vec ℕ) (e : Vec Event) → i < length rows → vec_items (get_or (vec_items v) i d) ≡ numbers_of (vec_items (get_or rows i e))))
+    → IfOk r (λ v. lists (vec_items v) ≡ each numbers_of (lists rows))
+known (Ok v) rows h = placed rows (vec_items v) h.0 h.1
+known (Err e) rows h = tt
+
+pub returns : goal.returns
+returns c = known c.try_collect.result c.args.rows.now (search (rules, chains))
