@@ -34,32 +34,29 @@ impl Listening {
     // One act of the listener, and what it says then.
     fn act(&mut self, call: Call, row: &[u64]) -> Result<Told, Failed> {
         let mut out = [0; ROW];
-        let told = match step(&mut self.memory, u64::from(call), row, &mut out) {
-            Ok(told) => told,
-            Err(refusal) => {
-                let number = u64::from(refusal);
-                writeln!(self.text, "refused {number}")?;
-                return Err(Failed::Said);
-            }
-        };
-        match told {
-            Told::Row(many) => {
+        let answer = step(&mut self.memory, u64::from(call), row, &mut out);
+        match answer {
+            Ok(Told::Row(many)) => {
                 let fits = Spaced(&out[..ROW.min(many as usize)]);
                 writeln!(self.text, "{fits}")?;
             }
-            Told::Late => {
+            Ok(Told::Late) => {
                 let count = self.count;
                 writeln!(self.text, "late {count}")?;
             }
-            Told::Waits | Told::Over => {}
+            Ok(Told::Waits | Told::Over) => {}
+            Err(refusal) => {
+                let number = u64::from(refusal);
+                writeln!(self.text, "refused {number}")?;
+            }
         }
-        Ok(told)
+        answer.map_err(|_| Failed::Said)
     }
 
     // One thing that the listener is told, and all that it says till it waits, is over, or refuses.
     fn tell(&mut self, call: Call, row: &[u64]) -> Result<(), Failed> {
         let mut told = self.act(call, row)?;
-        // No call tells of so many rows.
+        // A loop needs a measure, so there is a count: no call tells of so many rows.
         for _ in 0..u64::MAX {
             let Told::Row(_) = told else {
                 break;
@@ -93,9 +90,11 @@ impl Listening {
         Ok(left)
     }
 
-    // An event of which only so many bytes came.
+    // An event of which only so many bytes came; a fault that there is stays where none came.
     pub fn cut_off(&mut self, left: usize) {
-        self.fault = cut_off(self.count, left);
+        if let Some(fault) = cut_off(self.count, left) {
+            self.fault = Some(fault);
+        }
     }
 
     pub fn write(&mut self, rt: &HostRuntime) -> Result<(), Failed> {

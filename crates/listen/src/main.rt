@@ -42,7 +42,7 @@ fn hear_all(rt: &HostRuntime, path: &str, listening: &mut Listening) -> Result<(
     let mut source = Source::open(rt, path)?;
     let mut chunk = vec![in rt.alloc(); 0; CHUNK]?;
     let mut left: Vec<u8> = Vec::new(rt.alloc());
-    // No source has so many parts.
+    // A loop needs a measure, so there is a count: no source has so many parts.
     for _ in 0..u64::MAX {
         let n = source.more(rt, path, &mut chunk)?;
         if n == 0 {
