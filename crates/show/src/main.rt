@@ -4,7 +4,7 @@
 #[cfg(test)]
 mod tests;
 
-use files::{Failed, PatternSource, asked, ending};
+use files::{Failed, PatternSource, asked, ending, said};
 use std::process::ExitCode;
 use syntax::{Unwritten, write};
 
@@ -19,8 +19,7 @@ fn run(rt: &HostRuntime) -> Result<(), Failed> {
             Ok(())
         }
         Err(Unwritten::NoPattern) => {
-            eprintln!(rt; "{PROGRAM}: the numbers are no pattern")?;
-            Err(Failed::Said)
+            Err(said(rt, PROGRAM, &"the numbers are no pattern"))
         }
         Err(Unwritten::NoMemory) => Err(Failed::Memory),
     }
