@@ -16,8 +16,8 @@ pub struct Trial {
 }
 
 impl Trial {
-    // The call that the listener takes up, or its refusal. What the numbers of kinds stand for is said here once more, and not asked of the
-    // listener.
+    // The call that the listener takes up, or its refusal. What the numbers of kinds stand for is said here once more: `Call` is the
+    // listener's, but its `try_from`, with which `row` below picks what fits a kind, has no say in what is expected.
     pub fn call(&self) -> Result<Call, Refusal> {
         let call = match self.kind {
             0 => Call::Pattern,

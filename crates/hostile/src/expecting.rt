@@ -6,6 +6,7 @@ use crate::layout::{
 use crate::mirror::{Mirror, Phase};
 use listener::{Call, Refusal};
 use patterns::{PATTERN_WORDS, keep};
+use std::array;
 use timeline::Event;
 
 // Whether a row is looked for from the beginning, or behind one that was told.
@@ -24,7 +25,7 @@ pub enum Expected {
 }
 
 fn event_in(row: &[u64], heard: u64) -> Event {
-    let [time, kind, who, value] = [0, 1, 2, 3].map(|i: usize| row.get(i).copied().unwrap_or(0));
+    let [time, kind, who, value]: [u64; 4] = array::from_fn(|i| row.get(i).copied().unwrap_or(0));
     Event {
         heard,
         time,
@@ -57,6 +58,8 @@ impl Mirror {
         self.set(PHASE, u64::from(phase));
     }
 
+    // Which words stand for a pattern is asked of `keep`, as the listener asks it: what it lays is proved beside its contract, and here it is
+    // only tried that the listener lays it where it must.
     fn begin(&mut self, row: &[u64]) -> Result<Expected, Refusal> {
         let mut words = [0; PATTERN_WORDS];
         keep(row, &mut words).map_err(|_| Refusal::NoPattern)?;

@@ -1,6 +1,7 @@
 // A second memory, kept by this program beside the listener's: what that ought to be.
 use crate::layout::*;
 use std::alloc::{AllocError, Global};
+use std::array;
 use timeline::Event;
 
 #[derive(Clone, Copy, PartialEq, Eq)]
@@ -12,11 +13,11 @@ pub enum Phase {
     Over,
 }
 
-pub const PHASES: usize = 5;
+pub const PHASES: usize = Phase::Over as usize + 1;
 
 // No phase has this number.
 #[derive(Clone, Copy)]
-pub struct NoPhase(pub u64);
+pub struct NoPhase;
 
 impl TryFrom<u64> for Phase {
     type Error = NoPhase;
@@ -28,7 +29,7 @@ impl TryFrom<u64> for Phase {
             2 => Ok(Phase::Telling),
             3 => Ok(Phase::Ending),
             4 => Ok(Phase::Over),
-            _ => Err(NoPhase(number)),
+            _ => Err(NoPhase),
         }
     }
 }
@@ -63,8 +64,10 @@ impl Mirror {
 
     // Some words one behind the other, from a place on.
     pub fn lay(&mut self, at: usize, numbers: &[u64]) {
-        for (at, number) in (at..self.words.len()).zip(numbers) {
-            self.set(at, *number);
+        if let Some(words) = self.words.get_mut(at..) {
+            for (word, number) in words.iter_mut().zip(numbers) {
+                *word = *number;
+            }
         }
     }
 
@@ -115,9 +118,7 @@ impl Mirror {
 
     pub fn event(&self, position: u64) -> Event {
         let at = self.slot(position);
-        let [heard, time, kind, who, value] = [0, 1, 2, 3, 4].map(|i: usize| self.get(
-            at.saturating_add(i),
-        ));
+        let [heard, time, kind, who, value]: [u64; SLOT_LONG] = array::from_fn(|i| self.get(at.saturating_add(i)));
         Event {
             heard,
             time,
