@@ -4,7 +4,7 @@ use crate::knowing::Knowing;
 use crate::listening::Listening;
 use crate::making::Case;
 use crate::said::{End, Row, Said};
-use crate::shapes::{Pattern, Unread};
+use crate::shapes::Pattern;
 use crate::tally::Tally;
 use listener::Refusal;
 use rows::{FindError, find_all, find_counted};
@@ -50,17 +50,18 @@ impl Case {
 
     // What a finder found, as if it were told at the end.
     fn as_said(&self, found: Result<Vec<Vec<u64>>, FindError>) -> Result<Said, Stop> {
-        let found = match found {
-            Ok(found) => found,
-            Err(FindError::NoPattern) => return Ok(self.no_pattern()),
-            Err(FindError::Memory) => return Err(Stop::Finder),
-        };
-        let rows = found
-            .iter()
-            .map(|numbers| Row::of(numbers, |number| *number))
-            .collect(self.heap)?;
-        let end = End::Over;
-        Ok(Said { rows, end })
+        match found {
+            Ok(found) => {
+                let rows = found
+                    .iter()
+                    .map(|numbers| Row::of(numbers, |number| *number))
+                    .collect(self.heap)?;
+                let end = End::Over;
+                Ok(Said { rows, end })
+            }
+            Err(FindError::NoPattern) => Ok(self.no_pattern()),
+            Err(FindError::Memory) => Err(Stop::Finder),
+        }
     }
 
     // All rows, of the events that count by the finder's own account.
@@ -114,13 +115,9 @@ impl Case {
     pub fn compare(&self, listening: &mut Listening, tally: &mut Tally) -> Result<(), Stop> {
         tally.count_case(self);
         let begun = listening.begin(&self.row, self.start)?;
-        let pattern = match Pattern::read(self.heap, &self.row) {
-            Ok(pattern) => pattern,
-            Err(Unread::NoPattern) => {
-                tally.count_no_pattern();
-                return self.refused(begun);
-            }
-            Err(Unread::Memory(e)) => return Err(Stop::Memory(e)),
+        let Some(pattern) = Pattern::read(self.heap, &self.row)? else {
+            tally.count_no_pattern();
+            return self.refused(begun);
         };
         same(Place::Pattern, begun, Said::only(self.heap, End::Waits))?;
         let mut knowing = Knowing::new(self.heap, pattern);

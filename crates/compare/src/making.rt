@@ -18,7 +18,7 @@ pub enum Damage {
     Longer,
 }
 
-pub const DAMAGES: usize = 3;
+pub const DAMAGES: usize = Damage::Longer as usize + 1;
 
 #[derive(Drop)]
 pub struct Case {

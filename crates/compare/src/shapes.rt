@@ -181,22 +181,31 @@ impl Reader<'_> {
             .map(|step| self.step(step))
             .try_collect(heap)
     }
-}
 
-impl Pattern {
-    pub fn read(heap: Global, row: &[u64]) -> Result<Pattern, Unread> {
-        let mut reader = Reader {
-            heap,
-            numbers: row.iter(),
-        };
-        let within = reader.below(SPANS)?;
-        let late = reader.below(SPANS)?;
-        let steps = reader.steps()?;
+    fn pattern(&mut self) -> Result<Pattern, Unread> {
+        let within = self.below(SPANS)?;
+        let late = self.below(SPANS)?;
+        let steps = self.steps()?;
         Ok(Pattern {
             within,
             late,
             steps,
         })
+    }
+}
+
+impl Pattern {
+    // None where the numbers are no pattern.
+    pub fn read(heap: Global, row: &[u64]) -> Result<Option<Pattern>, AllocError> {
+        let mut reader = Reader {
+            heap,
+            numbers: row.iter(),
+        };
+        match reader.pattern() {
+            Ok(pattern) => Ok(Some(pattern)),
+            Err(Unread::NoPattern) => Ok(None),
+            Err(Unread::Memory(e)) => Err(e),
+        }
     }
 
     // The same without its nevers.

@@ -34,7 +34,7 @@ pub enum Scale {
     Huge,
 }
 
-pub const SCALES: usize = 3;
+pub const SCALES: usize = Scale::Huge as usize + 1;
 
 impl Scale {
     fn draw(random: &mut Random) -> Scale {
