@@ -20,6 +20,7 @@ impl Span {
         ensures start { IfSome result (λ s. s.start ≡ start) }
         ensures len { IfSome result (λ s. s.len ≡ len) }
     {
+        // The test stands in front of the value, since what is made must have `ok`: `then_some` would make it first.
         if start < CAPACITY && len <= CAPACITY {
             Some(Span { start, len })
         } else {
