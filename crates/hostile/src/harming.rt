@@ -117,11 +117,9 @@ impl Pair {
         self.set(KNOWN, random.below(most));
         self.set(UPTO, random.below(most));
         self.set(STALE, random.below(most));
-        if let Some(places) = self.memory.get_mut(PLACES..WITHIN) {
-            for place in places.iter_mut() {
-                *place = random.below(most);
-            }
-            self.mirror.lay(PLACES, places);
+        // By places, as the words above: `set` writes each word into both memories.
+        for at in PLACES..WITHIN {
+            self.set(at, random.below(most));
         }
     }
 

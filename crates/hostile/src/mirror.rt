@@ -64,10 +64,9 @@ impl Mirror {
 
     // Some words one behind the other, from a place on.
     pub fn lay(&mut self, at: usize, numbers: &[u64]) {
-        if let Some(words) = self.words.get_mut(at..) {
-            for (word, number) in words.iter_mut().zip(numbers) {
-                *word = *number;
-            }
+        let at = at.min(self.words.len());
+        for (word, number) in self.words[at..].iter_mut().zip(numbers) {
+            *word = *number;
         }
     }
 
@@ -118,7 +117,9 @@ impl Mirror {
 
     pub fn event(&self, position: u64) -> Event {
         let at = self.slot(position);
-        let [heard, time, kind, who, value]: [u64; SLOT_LONG] = array::from_fn(|i| self.get(at.saturating_add(i)));
+        let [heard, time, kind, who, value]: [u64; SLOT_LONG] = array::from_fn(|i| self.get(
+            at.saturating_add(i),
+        ));
         Event {
             heard,
             time,
