@@ -18,7 +18,7 @@ impl From<NotRising> for u64 {
 }
 
 // The place of a time behind all times of the row that are not above it; refused, with 1, where the row does not rise.
-// Each number of the row is looked at once, so that the test and the count are one loop.
+// One walk for the test and the count, by what is left of the row.
 pub fn place(time: u64, times: &[u64]) -> Result<u64, NotRising>
     ensures { result ≡ place_of time times.now }
 {
