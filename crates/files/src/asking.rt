@@ -21,7 +21,8 @@ pub enum PatternSource {
     Text(String),
 }
 
-// The numbers of a typed pattern; or what is wrong with it, said on standard error behind a name for it.
+// The numbers of a typed pattern; or what is wrong with it, said on standard error behind a name for it. Saying it can fail as well, so that
+// this is no `map_err`, in which there is no `?`.
 fn read_typed(rt: &HostRuntime, name: &str, text: &[u8]) -> Result<Vec<u64>, Failed> {
     match numbers(rt.alloc(), text) {
         Ok(row) => Ok(row),
@@ -93,6 +94,7 @@ impl Words for PatternSource {
 
     ghost says = { SaysSource };
 
+    // By `next`, which is there for callers that know the type, with a clause of its own.
     fn next_of(args: &mut Args) -> Option<PatternSource> {
         PatternSource::next(args)
     }
@@ -111,7 +113,8 @@ impl Words for PatternAndEvents {
     }
 }
 
-// What a program's words say; or how it is called, said on standard error: in one line of its own, where `clap` would write another text.
+// What a program's words say; or how it is called, said on standard error. By hand and not by `clap`, which words a usage and its refusals
+// itself: the one line that is printed here must stay as it is.
 pub fn asked<W: Words>(rt: &HostRuntime, program: &str) -> Result<W, Failed>
     ensures { IfErr result OfReading }
 {

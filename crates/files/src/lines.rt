@@ -8,7 +8,7 @@ const LINE_FEED: u8 = b'\n';
 
 #[derive(Clone, Copy)]
 pub struct Line {
-    // From 1 on.
+    // From 1 on; as wide, since a text that is all line feeds ends in a line more than it has bytes.
     pub number: u128,
     // The place of its first byte.
     pub start: usize,
@@ -56,7 +56,7 @@ pub fn line_rest(bytes: &[u8]) -> usize
     found.unwrap_or(bytes.len())
 }
 
-// How many bytes there are without the white ones at their end.
+// How many bytes there are without the white ones at their end. By a match: that `last + 1` fits is known beside it.
 pub fn without_white(bytes: &[u8]) -> usize
     ensures value { result ≡ without_white bytes.now (length bytes.now) }
     ensures bound { result ≤ length bytes.now }

@@ -31,7 +31,7 @@ pub fn line(heap: Global, row: &[u64]) -> Result<String, AllocError>
     format!(in heap; "{row}")
 }
 
-// The same behind a text.
+// The same behind a text. It is for others: no program here calls it.
 pub fn push_line(text: &mut Vec<u8>, row: &[u64]) -> Result<(), AllocError>
     ensures { OnOk result (text.new.items ≡ text.old.items ++ spaced row.now) }
 {
