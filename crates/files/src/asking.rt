@@ -21,8 +21,8 @@ pub enum PatternSource {
     Text(String),
 }
 
-// The numbers of a typed pattern; or what is wrong with it, said on standard error behind a name for it. Saying it can fail as well, so that
-// this is no `map_err`, in which there is no `?`.
+// The numbers of a typed pattern; or what is wrong with it, said on standard error behind a name for it. Saying it can fail as well, so
+// that this is no `map_err`, in which there is no `?`.
 fn read_typed(rt: &HostRuntime, name: &str, text: &[u8]) -> Result<Vec<u64>, Failed> {
     match numbers(rt.alloc(), text) {
         Ok(row) => Ok(row),

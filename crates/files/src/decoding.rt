@@ -50,8 +50,8 @@ pub fn cut_off(event: u64, left: usize) -> Option<Fault>
     Some(Fault::CutOff(event, left as u64))
 }
 
-// What bytes say: the events, numbered from 0, up to where it goes wrong, and how. No `Result`: both are wanted, since the events in front of
-// a fault are told before it is.
+// What bytes say: the events, numbered from 0, up to where it goes wrong, and how. No `Result`: both are wanted, since the events in front
+// of a fault are told before it is.
 #[derive(Drop)]
 pub struct Reading {
     pub events: Vec<Event>,

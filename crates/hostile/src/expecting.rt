@@ -58,8 +58,8 @@ impl Mirror {
         self.set(PHASE, u64::from(phase));
     }
 
-    // Which words stand for a pattern is asked of `keep`, as the listener asks it: what it lays is proved beside its contract, and here it is
-    // only tried that the listener lays it where it must.
+    // Which words stand for a pattern is asked of `keep`, as the listener asks it: what it lays is proved beside its contract, and here it
+    // is only tried that the listener lays it where it must.
     fn begin(&mut self, row: &[u64]) -> Result<Expected, Refusal> {
         let mut words = [0; PATTERN_WORDS];
         keep(row, &mut words).map_err(|_| Refusal::NoPattern)?;
@@ -69,8 +69,8 @@ impl Mirror {
         Ok(Expected::Waits)
     }
 
-    // Puts an event behind all that aren't behind it, looked for from the end. Those behind it move on by one position: the events are words
-    // of a ring, which no slice of events holds.
+    // Puts an event behind all that aren't behind it, looked for from the end. Those behind it move on by one position: the events are
+    // words of a ring, which no slice of events holds.
     fn hold(&mut self, e: Event) {
         let len = self.get(LEN);
         let before = (0..len)

@@ -1,7 +1,7 @@
 // Where the listener's memory has what: 14 words in front, 405 of the pattern, and a ring of slots of five. It is this program's own
-// account, so that both can't be wrong together. Shared with the listener are how long its memory is (`MEMORY_LONG`), its `Call`, `Told` and
-// `Refusal`, and `patterns::keep`, which says what the words of a pattern are. Places of words and no struct: memories are compared word by
-// word, and what they hold may be garbage that no struct could hold.
+// account, so that both can't be wrong together. Shared with the listener are how long its memory is (`MEMORY_LONG`), its `Call`, `Told`
+// and `Refusal`, and `patterns::keep`, which says what the words of a pattern are. Places of words and no struct: memories are compared
+// word by word, and what they hold may be garbage that no struct could hold.
 
 // The words in front.
 pub const PHASE: usize = 0;
