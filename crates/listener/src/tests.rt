@@ -146,6 +146,17 @@ fn refuses_misfits(rt: HostRuntime) -> Result<(), Fail> {
     Ok(())
 }
 
+// The numbers that callers pass and that programs print.
+#[test]
+fn calls_and_refusals_have_their_numbers(rt: HostRuntime) {
+    assert_eq!(rt;
+        [Pattern, Event, End, Next].map(|call| u64::from(call)),
+        [0, 1, 2, 3]
+    );
+    let refusals = [Misfit, NoPattern, OutOfTurn, NoRoom];
+    assert_eq!(rt; refusals.map(|refusal| u64::from(refusal)), [0, 1, 2, 8]);
+}
+
 // Memories that the listener never wrote: each phase, and the same number everywhere behind it. No more than 8,193 events
 // can be held. What is refused changes nothing, but that want of room is the end.
 #[test]
