@@ -18,9 +18,7 @@ fn run(rt: &HostRuntime) -> Result<(), Failed> {
             rt.println(text)?;
             Ok(())
         }
-        Err(Unwritten::NoPattern) => {
-            Err(said(rt, PROGRAM, &"the numbers are no pattern"))
-        }
+        Err(Unwritten::NoPattern) => Err(said(rt, PROGRAM, &"the numbers are no pattern")),
         Err(Unwritten::NoMemory) => Err(Failed::Memory),
     }
 }
