@@ -1,22 +1,38 @@
--- What is forbidden between two positions.
-use Rattle.std.proofs.Common.{◌≡◌, ℕ, ◌+◌, ◌-◌, ◌<◌, Bool, true, false, not, List, [], ◌∷◌, sym, refl, true≢false, arith}
+-- What is forbidden between two positions, one position after the other.
+use Rattle.std.proofs.Common.{◌≡◌, ℕ, zero, suc, ◌+◌, ◌-◌, ◌<◌, ◌≤◌, Bool, true, false, not, List, [], ◌∷◌, refl, ◌∙◌, true≢false, add-one, arith}
 use Rattle.timeline.specs.declared.events.Event.{Event}
 use Rattle.timeline.specs.Lists.{any, none_of, run}
 use Rattle.timeline.specs.Order.{nth}
 use Rattle.patterns.specs.Patterns.{Step, Never, fits_step}
 use Rattle.rows.specs.Finding.{forbidden}
-use Rattle.rows.proofs.Positions.{any_none, any_at}
+use Rattle.rows.proofs.Positions.{run_none, run_more, any_none}
 
 module _ (h es : List Event) (s : Step) where
   -- whether one of the positions from i on and before b is forbidden
   abbrev pub broken : ℕ → ℕ → Bool
   broken i b = any (λ j. forbidden es s (nth h j)) (run i (b - i))
 
-  -- whether one behind a and before b is forbidden, as it is found out
-  pub broken_is : (a b : ℕ) (r : Bool) (found : r ≡ true → (i : ℕ) × (a < i) × (i < b) × (forbidden es s (nth h i) ≡ true))
-      (passed : r ≡ false → (i : ℕ) → a < i → i < b → forbidden es s (nth h i) ≡ false) → r ≡ broken (a + 1) b
-  broken_is a b true found passed = let w = found refl in sym (any_at (λ j. forbidden es s (nth h j)) (a + 1) (b - (a + 1)) w.0 (omega (arith, w.1)) (omega (arith, w.1, w.2)) w.3)
-  broken_is a b false found passed = sym (any_none (λ j. forbidden es s (nth h j)) (a + 1) (b - (a + 1)) (λ j k l. passed refl j (omega arith) (omega arith)))
+  pub broken_past : (i b : ℕ) → i < b → forbidden es s (nth h i) ≡ false → broken (i + 1) b ≡ broken i b
+  unfolding any
+  broken_past i b l e = rw (add-one i, run_more i b l, e) refl
+
+  pub broken_here : (i b : ℕ) → i < b → forbidden es s (nth h i) ≡ true → broken i b ≡ true
+  unfolding any
+  broken_here i b l e = rw (run_more i b l, e) refl
+
+  -- over so many positions that aren't forbidden
+  broken_skip : (k i b : ℕ) → i + k ≤ b → ((j : ℕ) → j < i + k → i ≤ j → forbidden es s (nth h j) ≡ false) → broken (i + k) b ≡ broken i b
+  broken_skip zero i b l f = let q : i + 0 ≡ i = omega arith in rw q refl
+  broken_skip (suc k) i b l f =
+      let q : i + suc k ≡ i + 1 + k = omega arith in
+      rw q (broken_skip k (i + 1) b (omega arith) (λ j a c. f j (omega arith) (omega arith)) ∙ broken_past i b (omega arith) (f i (omega arith) (omega arith)))
+
+  pub broken_to : (i j b : ℕ) → i ≤ j → j ≤ b → ((m : ℕ) → m < j → i ≤ m → forbidden es s (nth h m) ≡ false) → broken j b ≡ broken i b
+  broken_to i j b l k f = let q : i + (j - i) ≡ j = omega arith in rw q at (broken_skip (j - i) i b (omega arith) (λ m a c. f m (omega arith) c))
+
+  pub broken_over : (i b : ℕ) → b ≤ i → broken i b ≡ false
+  unfolding any
+  broken_over i b l = rw (run_none i b l) refl
 
   -- a step without nevers forbids nothing
   pub broken_none : (i b : ℕ) → not (none_of s.never) ≡ false → broken i b ≡ false

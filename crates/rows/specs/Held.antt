@@ -5,6 +5,10 @@ use Rattle.timeline.specs.declared.events.Event.{Event}
 use Rattle.timeline.specs.Lists.{pick}
 use Rattle.timeline.specs.Order.{nothing, nth}
 
+-- an event of neither of two kinds
+abbrev pub OfNeither : ℕ → ℕ → Event → Type 0
+OfNeither a b e = ((e.kind == a) ≡ false) × ((e.kind == b) ≡ false)
+
 -- an event of another who, or of another kind
 abbrev pub OfAnother : ℕ → ℕ → Event → Type 0
 OfAnother w k e = (e.who == w) ≡ true → (e.kind == k) ≡ false

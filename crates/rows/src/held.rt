@@ -3,7 +3,7 @@ ghost use Rattle.std.specs.Prelude.{◌≡◌, ℕ, ◌+◌, ◌-◌, ◌<◌, �
 ghost use Rattle.timeline.specs.Order.{nth};
 ghost use Rattle.timeline.specs.Ring.{decode};
 ghost use Rattle.rows.specs.Parts.{event_of};
-ghost use Rattle.rows.specs.Held.{OfAnother};
+ghost use Rattle.rows.specs.Held.{OfNeither, OfAnother};
 
 use std::marker::Model;
 use timeline::{EVENT_NUMBERS, Event};
@@ -111,14 +111,15 @@ impl<'a> Held<'a> {
         from + i + first_in(back, &test)
     }
 
-    // Whether an event between two positions passes a test.
-    pub fn has_between<F: Fn(Event) -> bool>(&self, a: usize, b: usize, test: F) -> bool
-        requires inside { b ≤ length self.now }
-        requires callable { F.IsAlwaysCallable test }
-        ensures yes { result ≡ true → (i : ℕ) × (a < i) × (i < b) × F.post test (nth self.now i) true }
-        ensures no { result ≡ false → (i : ℕ) → a < i → i < b → F.post test (nth self.now i) false }
+    // The first position from one on and before the end whose event is of one of two kinds; the end where there is none.
+    pub fn next_of_kinds(&self, one: u64, other: u64, from: usize, end: usize) -> usize
+        requires order { from ≤ end }
+        requires inside { end ≤ length self.now }
+        ensures bounds { (from ≤ result) × (result ≤ end) }
+        ensures passed { (i : ℕ) → i < result → from ≤ i → OfNeither one other (nth self.now i) }
+        ensures stops { result < end → OfNeither one other (nth self.now result) → ⊥ }
     {
-        a < b && self.first(a + 1, b, test) < b
+        self.first(from, end, |e| e.kind == one || e.kind == other)
     }
 
     // The first position from one on and before the end whose event is of a kind; the end where there is none.

@@ -55,7 +55,8 @@ pub struct Search<'a> {
 }
 
 impl Search<'_> {
-    // Whether an event behind position a and before b is one that a never of the step forbids.
+    // Whether an event behind position a and before b is one that a never of the step forbids. Two loops: one passes what is of neither
+    // kind, and looks at nothing but that; what it stops at is tried here.
     fn is_broken(&self, step: usize, earlier: &[Event], a: usize, b: usize) -> bool
         requires { b ≤ length self.now.held }
         ensures { result ≡ any (λ i. forbidden earlier.now (kept_step self.now.kept.words.now step) (nth self.now.held i)) (run (a + 1) (b - (a + 1))) }
@@ -63,11 +64,22 @@ impl Search<'_> {
         if !self.kept.has_nevers(step) {
             return false;
         }
+        if a >= b {
+            return false;
+        }
         let (one, other) = self.kept.never_kinds(step);
-        let kept = self.kept;
-        self.held.has_between(a, b, |e| {
-            (e.kind == one || e.kind == other) && kept.hit(step, earlier, e)
-        })
+        let mut i = a + 1;
+        while i < b {
+            i = self.held.next_of_kinds(one, other, i, b);
+            if i >= b {
+                return false;
+            }
+            if self.kept.hit(step, earlier, self.held.get(i)) {
+                return true;
+            }
+            i += 1;
+        }
+        false
     }
 
     // Whether the event chosen at a depth fits a step behind the events of the steps before: by itself, within the window, and with nothing
