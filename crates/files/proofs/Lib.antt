@@ -1,3 +1,4 @@
 mod Chunks
 mod ByByte
 mod Parts
+mod Marks

@@ -4,6 +4,7 @@ ghost use Rattle.files.specs.Text.{spaced};
 
 use std::alloc::{AllocError, Global};
 use std::fmt;
+use std::io::Write;
 
 // A row's numbers, as text with a space between.
 #[derive(Clone, Copy)]
@@ -31,10 +32,9 @@ pub fn line(heap: Global, row: &[u64]) -> Result<String, AllocError>
     format!(in heap; "{row}")
 }
 
-// The same behind a text. It is for others: no program here calls it.
+// The same behind a text, straight into it. It is for others: no program here calls it.
 pub fn push_line(text: &mut Vec<u8>, row: &[u64]) -> Result<(), AllocError>
     ensures { OnOk result (text.new.items ≡ text.old.items ++ spaced row.now) }
 {
-    let said = line(*text.allocator(), row)?;
-    text.extend_from_slice(said.as_bytes())
+    text.write_fmt(Spaced(row)).map_err(|_| AllocError)
 }
