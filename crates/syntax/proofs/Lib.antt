@@ -17,3 +17,4 @@ mod Living
 mod Stopping
 mod Parts
 mod Texts
+mod Listed

@@ -56,7 +56,7 @@ unfolding ReadMayBe
 read_may_be = λ text p e. let ok = meant_may_be text p e in (ok, pattern_back p ok)
 
 -- the numbers that are read say a pattern that may be
-rowed_as : (r : Reading) (row : ArrayVec ℕ) → Rowed r (Ok row) → (p : Pattern) × (r ≡ means p) × (row.items ≡ pattern_row p)
+pub rowed_as : (r : Reading) (row : ArrayVec ℕ) → Rowed r (Ok row) → (p : Pattern) × (r ≡ means p) × (row.items ≡ pattern_row p)
 rowed_as (means p) row h = (p, refl, h)
 rowed_as (refused b e) row h = let z : ◌≡◌ {A = ℕ} 0 1 = cc in absurd (omega arith)
 

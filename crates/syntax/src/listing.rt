@@ -1,5 +1,5 @@
 // A text read into a row of its own.
-ghost use Rattle.std.specs.Prelude.{◌≡◌};
+ghost use Rattle.std.specs.Prelude.{◌≡◌, ◌≤◌, length, IfOk};
 ghost use Rattle.syntax.specs.declared.listing.Unread.TheVariants.{At, NoMemory};
 ghost use Rattle.syntax.specs.Reading.{reads};
 ghost use Rattle.syntax.specs.Listing.{Listed};
@@ -32,9 +32,10 @@ impl From<AllocError> for Unread {
     }
 }
 
-// The numbers of the pattern that a text says.
+// The numbers of the pattern that a text says: no pattern has more than 405.
 pub fn numbers(heap: Global, text: &[u8]) -> Result<Vec<u64>, Unread>
-    ensures { Listed (reads text.now) result }
+    ensures answer { Listed (reads text.now) result }
+    ensures short { IfOk result (λ v. length v.items ≤ 405) }
 {
     let row = row_of(text)?;
     let numbers = Vec::from_slice(heap, row.as_slice())?;
