@@ -11,3 +11,4 @@ mod Each
 mod Numbered
 mod Chunks
 mod Chains
+mod Holds
